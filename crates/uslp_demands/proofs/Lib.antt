@@ -1,0 +1,4 @@
+pub mod Alike
+pub mod OfOctets
+pub mod OfChecksum
+pub mod OfKinds

@@ -1,0 +1,52 @@
+-- The promises of `uslp_checksum` settle each call, and shut out two tempting wrong answers of each function.
+use mathlib.Core.Path.{_≡_, refl, sym, _∙_}
+use mathlib.Core.List.{List, [], _∷_}
+use Prim.Native.Nat.{ℕ}
+use native.Mathlib.Omega.{arith}
+use Rattle.uslp_checksum.specs.Checksum.{bit, step, feed, lows, bits, checksumOf}
+use Rattle.uslp_checksum.proofs as checksum
+use Rattle.uslp_demands.specs.Promise.{at, Allows, Settles}
+use Rattle.uslp_demands.proofs.Alike.{alike}
+
+-- the nine octets of the catalogue's check value
+abbrev digits : List ℕ
+digits = 0x31 ∷ 0x32 ∷ 0x33 ∷ 0x34 ∷ 0x35 ∷ 0x36 ∷ 0x37 ∷ 0x38 ∷ 0x39 ∷ []
+
+check-value : checksumOf digits ≡ 0x29B1
+unfolding checksumOf feed bits lows bit step
+check-value = refl
+
+pub checksum-settles : Settles checksum.checksum.Kinds.ps checksum.checksum.Kinds.r checksum.checksum.Reads.Pre checksum.checksum.Reads.Learnt
+checksum-settles = record { total = λ κs a. tt; same = λ κs a x y s t. alike (s ∙ sym t) refl }
+
+-- starts from 0
+pub checksum-zero : Allows checksum.checksum.Kinds.ps checksum.checksum.Kinds.r checksum.checksum.Reads.Learnt ([], tt) (at digits, tt) (0x31C3, (tt, tt)) → ⊥
+checksum-zero e = omega (arith, check-value)
+
+-- inverts the register at the end
+pub checksum-inverted : Allows checksum.checksum.Kinds.ps checksum.checksum.Kinds.r checksum.checksum.Reads.Learnt ([], tt) (at digits, tt) (0xD64E, (tt, tt)) → ⊥
+checksum-inverted e = omega (arith, check-value)
+
+pub checksum-bitwise-settles : Settles checksum.checksum_bitwise.Kinds.ps checksum.checksum_bitwise.Kinds.r checksum.checksum_bitwise.Reads.Pre checksum.checksum_bitwise.Reads.Learnt
+checksum-bitwise-settles = record { total = λ κs a. tt; same = λ κs a x y s t. alike (s ∙ sym t) refl }
+
+-- starts from 0
+pub checksum-bitwise-zero : Allows checksum.checksum_bitwise.Kinds.ps checksum.checksum_bitwise.Kinds.r checksum.checksum_bitwise.Reads.Learnt ([], tt) (at digits, tt) (0x31C3, (tt, tt)) → ⊥
+checksum-bitwise-zero e = omega (arith, check-value)
+
+-- inverts the register at the end
+pub checksum-bitwise-inverted : Allows checksum.checksum_bitwise.Kinds.ps checksum.checksum_bitwise.Kinds.r checksum.checksum_bitwise.Reads.Learnt ([], tt) (at digits, tt) (0xD64E, (tt, tt)) → ⊥
+checksum-bitwise-inverted e = omega (arith, check-value)
+
+pub update-settles : Settles checksum.update.Kinds.ps checksum.update.Kinds.r checksum.update.Reads.Pre checksum.update.Reads.Learnt
+update-settles = record { total = λ κs a. tt; same = λ κs a x y s t. alike (s ∙ sym t) refl }
+
+-- keeps the register
+pub update-deaf : Allows checksum.update.Kinds.ps checksum.update.Kinds.r checksum.update.Reads.Learnt ([], tt) (0, (at (1 ∷ []), tt)) (0, (tt, (tt, tt))) → ⊥
+unfolding feed bits lows bit step
+update-deaf e = omega arith
+
+-- starts anew from all ones
+pub update-anew : Allows checksum.update.Kinds.ps checksum.update.Kinds.r checksum.update.Reads.Learnt ([], tt) (0, (at [], tt)) (0xFFFF, (tt, (tt, tt))) → ⊥
+unfolding feed bits
+update-anew e = omega arith

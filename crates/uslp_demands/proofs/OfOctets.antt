@@ -1,0 +1,52 @@
+-- The promises of `uslp_octets` settle each call, and shut out two tempting wrong answers of each function.
+use mathlib.Core.Path.{_≡_, refl, sym, _∙_}
+use mathlib.Core.List.{[], _∷_}
+use Prim.Native.Nat.{ℕ}
+use native.Mathlib.Omega.{arith}
+use Rattle.uslp_octets.proofs as octets
+use Rattle.uslp_demands.specs.Promise.{at, Allows, Settles}
+use Rattle.uslp_demands.proofs.Alike.{alike}
+
+pub copy-octets-settles : Settles octets.copy_octets.Kinds.ps octets.copy_octets.Kinds.r octets.copy_octets.Reads.Pre octets.copy_octets.Reads.Learnt
+copy-octets-settles = record { total = λ κs a. tt; same = λ κs a x y s t. alike refl (λ i. (tt, ((s ∙ sym t) i, tt))) }
+
+-- copies nothing
+pub copy-octets-idle : Allows octets.copy_octets.Kinds.ps octets.copy_octets.Kinds.r octets.copy_octets.Reads.Learnt ([], ([], tt)) (at (1 ∷ 2 ∷ []), (at (7 ∷ 8 ∷ 9 ∷ []), tt)) (tt, (tt, (7 ∷ 8 ∷ 9 ∷ [], tt))) → ⊥
+copy-octets-idle e = let z : _≡_ {A = ℕ} 7 1 = cc in omega arith
+
+-- stops one octet early
+pub copy-octets-short : Allows octets.copy_octets.Kinds.ps octets.copy_octets.Kinds.r octets.copy_octets.Reads.Learnt ([], ([], tt)) (at (1 ∷ 2 ∷ []), (at (7 ∷ 8 ∷ 9 ∷ []), tt)) (tt, (tt, (1 ∷ 8 ∷ 9 ∷ [], tt))) → ⊥
+copy-octets-short e = let z : _≡_ {A = ℕ} 8 2 = cc in omega arith
+
+pub put-number-settles : Settles octets.put_number.Kinds.ps octets.put_number.Kinds.r octets.put_number.Reads.Pre octets.put_number.Reads.Learnt
+put-number-settles = record { total = λ κs a. tt; same = λ κs a x y s t. alike refl (λ i. (tt, ((s ∙ sym t) i, tt))) }
+
+-- writes nothing
+pub put-number-idle : Allows octets.put_number.Kinds.ps octets.put_number.Kinds.r octets.put_number.Reads.Learnt ([], tt) (0x0102, (at (7 ∷ 8 ∷ []), tt)) (tt, (tt, (7 ∷ 8 ∷ [], tt))) → ⊥
+put-number-idle e = let z : _≡_ {A = ℕ} 7 1 = cc in omega arith
+
+-- the least significant octet first
+pub put-number-little : Allows octets.put_number.Kinds.ps octets.put_number.Kinds.r octets.put_number.Reads.Learnt ([], tt) (0x0102, (at (7 ∷ 8 ∷ []), tt)) (tt, (tt, (2 ∷ 1 ∷ [], tt))) → ⊥
+put-number-little e = let z : _≡_ {A = ℕ} 2 1 = cc in omega arith
+
+pub be-u16-settles : Settles octets.be_u16.Kinds.ps octets.be_u16.Kinds.r octets.be_u16.Reads.Pre octets.be_u16.Reads.Learnt
+be-u16-settles = record { total = λ κs a. tt; same = λ κs a x y s t. alike (s ∙ sym t) refl }
+
+-- the least significant octet first
+pub be-u16-little : Allows octets.be_u16.Kinds.ps octets.be_u16.Kinds.r octets.be_u16.Reads.Learnt tt (1, (2, tt)) (0x0201, (tt, (tt, tt))) → ⊥
+be-u16-little e = omega arith
+
+-- the low octet alone
+pub be-u16-low : Allows octets.be_u16.Kinds.ps octets.be_u16.Kinds.r octets.be_u16.Reads.Learnt tt (1, (2, tt)) (2, (tt, (tt, tt))) → ⊥
+be-u16-low e = omega arith
+
+pub be-u32-settles : Settles octets.be_u32.Kinds.ps octets.be_u32.Kinds.r octets.be_u32.Reads.Pre octets.be_u32.Reads.Learnt
+be-u32-settles = record { total = λ κs a. tt; same = λ κs a x y s t. alike (s ∙ sym t) refl }
+
+-- the least significant octet first
+pub be-u32-little : Allows octets.be_u32.Kinds.ps octets.be_u32.Kinds.r octets.be_u32.Reads.Learnt tt (1, (2, (3, (4, tt)))) (0x04030201, (tt, (tt, (tt, (tt, tt))))) → ⊥
+be-u32-little e = omega arith
+
+-- the halves swapped
+pub be-u32-halves : Allows octets.be_u32.Kinds.ps octets.be_u32.Kinds.r octets.be_u32.Reads.Learnt tt (1, (2, (3, (4, tt)))) (0x03040102, (tt, (tt, (tt, (tt, tt))))) → ⊥
+be-u32-halves e = omega arith

@@ -1,0 +1,35 @@
+-- What it is for a promise to settle a call, and to shut an outcome out. A promise is what the checker reads off the source: `pre` its
+-- `requires`, `post` its `ensures`.
+use Prim.Native.Nat.{ℕ}
+use mathlib.Core.Path.{_≡_}
+use mathlib.Core.List.{List}
+use contract.Lifetimes.{Lfts}
+use denote.Ref.{RefT}
+use denote.Triple.Clauses.{Lasts, atExit}
+use borrow.Fn.Kind.{PK, RK}
+use borrow.Fn.Kinds.{In, Out, Dens, resT, endedOf}
+
+-- a slice that holds these octets
+abbrev pub at : List ℕ → RefT (List ℕ)
+at s = record { ptr = (0, 0); name = 0; now = s }
+
+module _ {n : ℕ} (ps : List (PK n)) (r : RK n) where
+  -- what a call with the arguments a leaves: its answer, and the last contents of each `&mut`
+  abbrev pub Left : (κs : Lfts n) → Dens κs ps → Type 0
+  Left κs a = resT r κs .Denot × Lasts (endedOf n ps r) κs a
+
+  -- the promise allows this outcome of a call with the arguments a
+  abbrev pub Allows : Out n ps r → (κs : Lfts n) (a : Dens κs ps) → Left κs a → Type 0
+  Allows post κs a x = post κs a (x .0) (atExit (endedOf n ps r) κs a (x .1))
+
+  -- every argument may be passed, and any two outcomes that the promise allows are equal
+  pub record Settles (pre : In n ps) (post : Out n ps r) : Type 0 where
+    pub total : (κs : Lfts n) (a : Dens κs ps) → pre κs a
+    pub same : (κs : Lfts n) (a : Dens κs ps) (x y : Left κs a) → Allows post κs a x → Allows post κs a y → x ≡ y
+
+  -- a program, as far as a promise sees it: what it leaves on each argument
+  abbrev pub Program : Type 0
+  Program = (κs : Lfts n) (a : Dens κs ps) → Left κs a
+
+  abbrev pub Keeps : Out n ps r → Program → Type 0
+  Keeps post f = (κs : Lfts n) (a : Dens κs ps) → Allows post κs a (f κs a)

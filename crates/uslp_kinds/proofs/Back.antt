@@ -1,0 +1,65 @@
+-- An answer on paper loses nothing: it has a way back, so two answers that say the same on paper are one.
+-- Assumes nothing.
+use mathlib.Core.Path.{_≡_, refl, ap, sym, _∙_}
+use Prim.Native.Nat.{ℕ}
+use mathlib.Core.List.{List, [], _∷_}
+use lib.ListN.{getD}
+use Rattle.uslp_kinds.specs.Outcome.{Outcome, done, refused, leaving}
+use Rattle.uslp_kinds.specs.Kinds.{ruleOf}
+use Rattle.uslp_kinds.specs.Answers.{sheet, refusal, paperLength, paperProtocol}
+use Rattle.uslp_kinds.proofs.Cases.{rule-back}
+use Rattle.uslp_kinds.specs.declared.Refusal.{Refusal}
+use Rattle.uslp_kinds.specs.declared.Refusal.the-variants.{ShortSource, ShortTarget, Truncated, BadVersion, BadProtocol, BadChecksum, FrameTooShort, BadCount, BadPointer, BadField, OcfMissing, TooLong, NotOpen, OtherWidth, AlreadyOpen, TableFull, TotalFull}
+use Rattle.uslp_kinds.specs.declared.LengthAnswer.{LengthAnswer}
+use Rattle.uslp_kinds.specs.declared.LengthAnswer.the-variants as length-answer
+use Rattle.uslp_kinds.specs.declared.ProtocolIdAnswer.{ProtocolIdAnswer}
+use Rattle.uslp_kinds.specs.declared.ProtocolIdAnswer.the-variants as protocol-answer
+
+-- the refusals by number, with a and b for what they carry; there is no number 0
+abbrev listed : ℕ → ℕ → List Refusal
+listed a b =
+    Truncated ∷ ShortSource a b ∷ ShortTarget a b ∷ Truncated ∷ BadVersion a ∷ BadProtocol a ∷ BadChecksum a ∷ FrameTooShort a b ∷ BadCount a b
+    ∷ BadPointer (ruleOf a) ∷ BadField ∷ OcfMissing ∷ TooLong ∷ NotOpen ∷ OtherWidth a b ∷ AlreadyOpen ∷ TableFull ∷ TotalFull ∷ []
+
+abbrev pub refusalOf : ℕ → List ℕ → Refusal
+refusalOf k vs = getD (listed (getD vs 0 0) (getD vs 1 0)) k Truncated
+
+pub refusal-back : (r : Refusal) → refusalOf (sheet r .0) (sheet r .1) ≡ r
+refusal-back (ShortSource a b) = refl
+refusal-back (ShortTarget a b) = refl
+refusal-back Truncated = refl
+refusal-back (BadVersion a) = refl
+refusal-back (BadProtocol a) = refl
+refusal-back (BadChecksum a) = refl
+refusal-back (FrameTooShort a b) = refl
+refusal-back (BadCount a b) = refl
+refusal-back (BadPointer p) = ap BadPointer (rule-back p)
+refusal-back BadField = refl
+refusal-back OcfMissing = refl
+refusal-back TooLong = refl
+refusal-back NotOpen = refl
+refusal-back (OtherWidth a b) = refl
+refusal-back AlreadyOpen = refl
+refusal-back TableFull = refl
+refusal-back TotalFull = refl
+
+-- the way back for an answer with the two constructors `Done` and `Refused`
+abbrev pub back : {A E : Type 0} → (A → E) → (Refusal → E) → Outcome A → E
+back D R (done x) = D x
+back D R (refused k vs) = R (refusalOf k vs)
+
+-- a function that has a way back is one-to-one
+pub one-to-one : {A B : Type 0} (out : A → B) (way : B → A) → ((x : A) → way (out x) ≡ x) → {x y : A} → out x ≡ out y → x ≡ y
+one-to-one out way same {x} {y} e = sym (same x) ∙ ap way e ∙ same y
+
+pub length-back : (r : LengthAnswer) → back length-answer.Done length-answer.Refused (paperLength r) ≡ r
+length-back (length-answer.Done n) = refl
+length-back (length-answer.Refused r) = ap length-answer.Refused (refusal-back r)
+
+pub protocol-back : (r : ProtocolIdAnswer) → back protocol-answer.Done protocol-answer.Refused (paperProtocol r) ≡ r
+protocol-back (protocol-answer.Done p) = refl
+protocol-back (protocol-answer.Refused r) = ap protocol-answer.Refused (refusal-back r)
+
+-- one equation of what a writing leaves is two
+pub leaving-one : {A : Type 0} {o p : Outcome A} {s t : List ℕ} → leaving o s ≡ leaving p t → (o ≡ p) × (s ≡ t)
+leaving-one e = (cc, cc)

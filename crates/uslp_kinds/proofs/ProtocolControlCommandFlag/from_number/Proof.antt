@@ -1,0 +1,16 @@
+use mathlib.Core.Path.{_≡_}
+use Prim.Native.Nat.{_%_}
+use native.Mathlib.Omega.{arith}
+use Rattle.uslp_kinds.proofs.ProtocolControlCommandFlag.from_number.Statement.{statement}
+use Rattle.uslp_kinds.proofs.ProtocolControlCommandFlag.from_number.Tie as tie
+use Rattle.uslp_kinds.proofs.ProtocolControlCommandFlag.from_number.Reads as reads
+use Rattle.uslp_kinds.proofs.ProtocolControlCommandFlag.from_number.Lts as lts
+
+returns : tie.Need-returns
+returns c = rw (c .if1 .taken)
+
+returns-2 : tie.Need-returns-2
+returns-2 c = let z : c .before .args .number % 2 ≡ 0 = omega (arith, c .if1 .left) in rw z
+
+pub from-number-spec : {M : Type 1} → statement M
+from-number-spec = tie.close (tie.spec returns returns-2)

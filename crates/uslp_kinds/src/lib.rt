@@ -1,0 +1,239 @@
+// The refusals of the library, the kinds of field that a frame carries, and the answers on numbers and ids.
+ghost use mathlib.Core.Path.{_≡_};
+ghost use Rattle.uslp_kinds.specs.Kinds.{sourceOrDestNumber, sourceOrDestOf, bypassNumber, bypassOf, commandNumber, commandOf, ruleNumber, ruleOf, fixedLength, protocolNumber, protocolOf};
+ghost use Rattle.uslp_kinds.specs.Answers.{paperProtocol};
+
+// Whether the spacecraft id names the source or the destination of the frame.
+pub enum SourceOrDestField {
+    Source,
+    Dest,
+}
+
+pub enum BypassSequenceControlFlag {
+    SequenceControlledQoS,
+    ExpeditedQoS,
+}
+
+pub enum ProtocolControlCommandFlag {
+    TfdfContainsUserData,
+    TfdfContainsProtocolInfo,
+}
+
+pub enum ConstructionRule {
+    PacketSpanningMultipleFrames,
+    StartOfMapaSduOrVcaSdu,
+    ContinuingPortionOfMapaSdu,
+    OctetStream,
+    StartingSegment,
+    ContinuingSegment,
+    LastSegment,
+    NoSegmentation,
+}
+
+pub enum UslpProtocolId {
+    SpacePacketsOrEncapsulation,
+    Cop1ControlCommands,
+    CopPControlCommands,
+    Sdls,
+    UserDefinedOctetStream,
+    MissionSpecificInfo1MapaSduOrVcaSdu,
+    Proximity1PseudoPacketIdentifier1,
+    Spdu,
+    Proximity1PseudoPacketIdentifier2,
+    Idle,
+}
+
+// The first header pointer or last valid octet pointer: rules 0 to 2 have one.
+pub enum FhpOrLvo {
+    Absent,
+    Present(u16),
+}
+
+pub enum OperationalControlField {
+    Absent,
+    Present(u32),
+}
+
+// Why a call was refused, with what a person at the bench needs to act.
+pub enum Refusal {
+    ShortSource { found: usize, expected: usize },
+    ShortTarget { found: usize, expected: usize },
+    Truncated,
+    BadVersion(u8),
+    BadProtocol(u8),
+    BadChecksum(u16),
+    FrameTooShort { length: usize, needed: usize },
+    BadCount { count: u64, width: u8 },
+    BadPointer(ConstructionRule),
+    BadField,
+    OcfMissing,
+    TooLong,
+    NotOpen,
+    OtherWidth { frame: u8, opened: u8 },
+    AlreadyOpen,
+    TableFull,
+    TotalFull,
+}
+
+// How many octets were written, or are needed.
+pub enum LengthAnswer {
+    Done(usize),
+    Refused(Refusal),
+}
+
+pub enum ProtocolIdAnswer {
+    Done(UslpProtocolId),
+    Refused(Refusal),
+}
+
+impl SourceOrDestField {
+    // The case that the low bit names.
+    pub fn from_number(number: u8) -> SourceOrDestField
+        ensures { λ r. ⌜ r ≡ sourceOrDestOf number ⌝ }
+    {
+        if number % 2 == 1 {
+            SourceOrDestField::Dest
+        } else {
+            SourceOrDestField::Source
+        }
+    }
+
+    pub fn number(self) -> u8
+        ensures { λ r. ⌜ r ≡ sourceOrDestNumber self ⌝ }
+    {
+        match self {
+            SourceOrDestField::Source => 0,
+            SourceOrDestField::Dest => 1,
+        }
+    }
+}
+
+impl BypassSequenceControlFlag {
+    // The case that the low bit names.
+    pub fn from_number(number: u8) -> BypassSequenceControlFlag
+        ensures { λ r. ⌜ r ≡ bypassOf number ⌝ }
+    {
+        if number % 2 == 1 {
+            BypassSequenceControlFlag::ExpeditedQoS
+        } else {
+            BypassSequenceControlFlag::SequenceControlledQoS
+        }
+    }
+
+    pub fn number(self) -> u8
+        ensures { λ r. ⌜ r ≡ bypassNumber self ⌝ }
+    {
+        match self {
+            BypassSequenceControlFlag::SequenceControlledQoS => 0,
+            BypassSequenceControlFlag::ExpeditedQoS => 1,
+        }
+    }
+}
+
+impl ProtocolControlCommandFlag {
+    // The case that the low bit names.
+    pub fn from_number(number: u8) -> ProtocolControlCommandFlag
+        ensures { λ r. ⌜ r ≡ commandOf number ⌝ }
+    {
+        if number % 2 == 1 {
+            ProtocolControlCommandFlag::TfdfContainsProtocolInfo
+        } else {
+            ProtocolControlCommandFlag::TfdfContainsUserData
+        }
+    }
+
+    pub fn number(self) -> u8
+        ensures { λ r. ⌜ r ≡ commandNumber self ⌝ }
+    {
+        match self {
+            ProtocolControlCommandFlag::TfdfContainsUserData => 0,
+            ProtocolControlCommandFlag::TfdfContainsProtocolInfo => 1,
+        }
+    }
+}
+
+impl ConstructionRule {
+    // The rule that the low three bits name: there are eight, so none is unknown.
+    pub fn from_number(number: u8) -> ConstructionRule
+        ensures { λ r. ⌜ r ≡ ruleOf number ⌝ }
+    {
+        match number % 8 {
+            0 => ConstructionRule::PacketSpanningMultipleFrames,
+            1 => ConstructionRule::StartOfMapaSduOrVcaSdu,
+            2 => ConstructionRule::ContinuingPortionOfMapaSdu,
+            3 => ConstructionRule::OctetStream,
+            4 => ConstructionRule::StartingSegment,
+            5 => ConstructionRule::ContinuingSegment,
+            6 => ConstructionRule::LastSegment,
+            _ => ConstructionRule::NoSegmentation,
+        }
+    }
+
+    pub fn number(self) -> u8
+        ensures { λ r. ⌜ r ≡ ruleNumber self ⌝ }
+    {
+        match self {
+            ConstructionRule::PacketSpanningMultipleFrames => 0,
+            ConstructionRule::StartOfMapaSduOrVcaSdu => 1,
+            ConstructionRule::ContinuingPortionOfMapaSdu => 2,
+            ConstructionRule::OctetStream => 3,
+            ConstructionRule::StartingSegment => 4,
+            ConstructionRule::ContinuingSegment => 5,
+            ConstructionRule::LastSegment => 6,
+            ConstructionRule::NoSegmentation => 7,
+        }
+    }
+
+    pub fn applicable_to_fixed_len_tfdz(self) -> bool
+        ensures { λ r. ⌜ r ≡ fixedLength self ⌝ }
+    {
+        match self {
+            ConstructionRule::PacketSpanningMultipleFrames => true,
+            ConstructionRule::StartOfMapaSduOrVcaSdu => true,
+            ConstructionRule::ContinuingPortionOfMapaSdu => true,
+            ConstructionRule::OctetStream => false,
+            ConstructionRule::StartingSegment => false,
+            ConstructionRule::ContinuingSegment => false,
+            ConstructionRule::LastSegment => false,
+            ConstructionRule::NoSegmentation => false,
+        }
+    }
+}
+
+impl UslpProtocolId {
+    // Refuses BAD_PROTOCOL with the number.
+    pub fn from_number(number: u8) -> ProtocolIdAnswer
+        ensures { λ r. ⌜ paperProtocol r ≡ protocolOf number ⌝ }
+    {
+        match number {
+            0 => ProtocolIdAnswer::Done(UslpProtocolId::SpacePacketsOrEncapsulation),
+            1 => ProtocolIdAnswer::Done(UslpProtocolId::Cop1ControlCommands),
+            2 => ProtocolIdAnswer::Done(UslpProtocolId::CopPControlCommands),
+            3 => ProtocolIdAnswer::Done(UslpProtocolId::Sdls),
+            4 => ProtocolIdAnswer::Done(UslpProtocolId::UserDefinedOctetStream),
+            5 => ProtocolIdAnswer::Done(UslpProtocolId::MissionSpecificInfo1MapaSduOrVcaSdu),
+            6 => ProtocolIdAnswer::Done(UslpProtocolId::Proximity1PseudoPacketIdentifier1),
+            7 => ProtocolIdAnswer::Done(UslpProtocolId::Spdu),
+            8 => ProtocolIdAnswer::Done(UslpProtocolId::Proximity1PseudoPacketIdentifier2),
+            31 => ProtocolIdAnswer::Done(UslpProtocolId::Idle),
+            _ => ProtocolIdAnswer::Refused(Refusal::BadProtocol(number)),
+        }
+    }
+
+    pub fn number(self) -> u8
+        ensures { λ r. ⌜ r ≡ protocolNumber self ⌝ }
+    {
+        match self {
+            UslpProtocolId::SpacePacketsOrEncapsulation => 0,
+            UslpProtocolId::Cop1ControlCommands => 1,
+            UslpProtocolId::CopPControlCommands => 2,
+            UslpProtocolId::Sdls => 3,
+            UslpProtocolId::UserDefinedOctetStream => 4,
+            UslpProtocolId::MissionSpecificInfo1MapaSduOrVcaSdu => 5,
+            UslpProtocolId::Proximity1PseudoPacketIdentifier1 => 6,
+            UslpProtocolId::Spdu => 7,
+            UslpProtocolId::Proximity1PseudoPacketIdentifier2 => 8,
+            UslpProtocolId::Idle => 31,
+        }
+    }
+}

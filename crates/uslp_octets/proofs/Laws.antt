@@ -1,0 +1,118 @@
+-- Laws of numbers and rows of fields as octets, for any width, length and table.
+-- Assumes nothing.
+use mathlib.Core.Path.{_≡_, refl, ap, sym, _∙_}
+use Prim.Native.Nat.{ℕ, zero, suc, _+_, _*_, _/_, _%_, _^_, _-_, _<_, _≤_}
+use mathlib.Core.List.{List, [], _∷_, _++_}
+use native.Mathlib.Omega.{arith}
+use native.Mathlib.Numerals.{add-one}
+use native.Mathlib.Nat.{mul-suc, pow-suc, mul-add-div-right, div-div-eq-div-mul, suc-add, zero-add, mul-assoc, one-le-pow, div-eq-of-lt, mul-comm, add-comm, add-mul, add-zero, add-assoc, sub-zero, le-refl, div-one}
+use lib.Pow.{pow-add}
+use lib.Dec.{lit<}
+use lib.ListN.{length, take, drop, getD, length-drop, List·getD-append}
+use lib.Seq.{getD-append-add, getD-drop, getD-take, take-suc}
+use Rattle.uslp_octets.specs.Octets.{AreOctets, Field, bitsIn, valueOf, octets, pack, word}
+
+pub pow-eight : (w : ℕ) → 2 ^ (8 * w) ≡ 256 ^ w
+pow-eight zero = refl
+pow-eight (suc w) = rw (mul-suc, pow-add, pow-suc 256 w, pow-eight w)
+
+pub pos : (w : ℕ) → 0 < 256 ^ w
+pos w = one-le-pow w 256 (lit< tt)
+
+pub length-octets : (k n : ℕ) → length (octets k n) ≡ k
+length-octets zero n = refl
+length-octets (suc k) n = ap suc (length-octets k n)
+
+pub getD-octets : (k n i : ℕ) → i < k → getD (octets k n) i 0 ≡ n / 256 ^ (k - 1 - i) % 256
+getD-octets zero n i h = absurd (omega arith)
+getD-octets (suc k) n zero h = ap (λ (j : ℕ). n / 256 ^ j % 256) (omega arith)
+getD-octets (suc k) n (suc i) h = getD-octets k n i (omega arith) ∙ ap (λ (j : ℕ). n / 256 ^ j % 256) (omega arith)
+
+pub cons-eq : {a b : ℕ} {s t : List ℕ} → a ≡ b → s ≡ t → a ∷ s ≡ b ∷ t
+cons-eq p q = cc
+
+-- the low octets do not see what stands above them
+octets-low : (w q r : ℕ) → octets w (q * 256 ^ w + r) ≡ octets w r
+octets-low zero q r = refl
+octets-low (suc w) q r =
+    let e : q * 256 ^ suc w + r ≡ q * 256 * 256 ^ w + r = rw (pow-suc 256 w, mul-assoc q 256, mul-comm 256 (256 ^ w)) in
+    let d : (q * 256 * 256 ^ w + r) / 256 ^ w ≡ q * 256 + r / 256 ^ w = mul-add-div-right (pos w) (q * 256) r in
+    ap (octets (suc w)) e ∙ cons-eq (omega (arith, d)) (octets-low w (q * 256) r)
+
+-- two numbers side by side
+pub octets-append : (k w q r : ℕ) → r < 256 ^ w → octets (k + w) (q * 256 ^ w + r) ≡ octets k q ++ octets w r
+octets-append zero w q r h = rw zero-add (octets-low w q r)
+octets-append (suc k) w q r h =
+    let d : (q * 256 ^ w + r) / 256 ^ w ≡ q = mul-add-div-right (pos w) q r ∙ ap (λ (y : ℕ). q + y) (div-eq-of-lt h) ∙ add-zero q in
+    let x : (q * 256 ^ w + r) / 256 ^ (k + w) ≡ q / 256 ^ k =
+    rw (add-comm k w, pow-add) (sym (div-div-eq-div-mul (q * 256 ^ w + r) (256 ^ w) (256 ^ k)) ∙ ap (λ (y : ℕ). y / 256 ^ k) d) in
+    rw suc-add (cons-eq (ap (λ (y : ℕ). y % 256) x) (octets-append k w q r h))
+
+-- a row after a row
+bits-append : (fs gs : List Field) → bitsIn (fs ++ gs) ≡ bitsIn fs + bitsIn gs
+bits-append [] gs = sym (zero-add (bitsIn gs))
+bits-append (f ∷ fs) gs = rw (bits-append fs gs) (sym (add-assoc (f .0) (bitsIn fs) (bitsIn gs)))
+
+regroup : (v b p n m : ℕ) → v * (b * p) + (n * p + m) ≡ (v * b + n) * p + m
+regroup v b p n m = simp (add-mul, mul-assoc, add-assoc)
+
+value-append : (fs gs : List Field) → valueOf (fs ++ gs) ≡ valueOf fs * 2 ^ bitsIn gs + valueOf gs
+value-append [] gs = omega arith
+value-append (f ∷ fs) gs =
+    rw (bits-append fs gs, value-append fs gs, pow-add)
+    (regroup (f .1) (2 ^ bitsIn fs) (2 ^ bitsIn gs) (valueOf fs) (valueOf gs))
+
+-- a row of whole octets, and behind it a number of w octets
+pub pack-append : (k w n : ℕ) (fs : List Field) → bitsIn fs ≡ 8 * k → n < 256 ^ w
+    → pack (fs ++ (8 * w, n) ∷ []) ≡ octets k (valueOf fs) ++ octets w n
+pack-append k w n fs e h =
+    let b : bitsIn (fs ++ (8 * w, n) ∷ []) / 8 ≡ k + w = omega (arith, bits-append fs ((8 * w, n) ∷ [])) in
+    let p : 2 ^ (8 * w + 0) ≡ 256 ^ w = rw add-zero (pow-eight w) in
+    let v : valueOf (fs ++ (8 * w, n) ∷ []) ≡ valueOf fs * 256 ^ w + n =
+    value-append fs ((8 * w, n) ∷ []) ∙ rw p (omega arith) in
+    rw (b, v) (octets-append k w (valueOf fs) n h)
+
+-- the number of w octets that stand behind p: the first k of them make its high part, all of them the number
+module _ (p t : List ℕ) (w n : ℕ) (fits : n < 256 ^ w) where
+  word-high : (k : ℕ) → k ≤ w → word (length p) k (p ++ (octets w n ++ t)) ≡ n / 256 ^ (w - k)
+  word-high zero h = sym (ap (λ (j : ℕ). n / 256 ^ j) (sub-zero w) ∙ div-eq-of-lt fits)
+  word-high (suc k) h =
+      let e : 256 ^ (w - k) ≡ 256 ^ (w - 1 - k) * 256 = ap (λ (j : ℕ). 256 ^ j) (omega arith) ∙ pow-suc 256 (w - 1 - k) in
+      let high : n / 256 ^ (w - k) ≡ n / 256 ^ (w - 1 - k) / 256 = ap (λ (d : ℕ). n / d) e ∙ sym (div-div-eq-div-mul n (256 ^ (w - 1 - k)) 256) in
+      let at : getD (p ++ (octets w n ++ t)) (length p + k) 0 ≡ n / 256 ^ (w - 1 - k) % 256 =
+      getD-append-add p (octets w n ++ t) k 0 ∙ List·getD-append (octets w n) t 0 k (omega (arith, length-octets w n)) ∙ getD-octets w n k (omega arith) in
+      let last : n / 256 ^ (w - 1 - k) ≡ n / 256 ^ (w - suc k) = ap (λ (j : ℕ). n / 256 ^ j) (omega arith) in
+      rw (word-high k (omega arith), at, high) (omega (arith, last))
+
+  pub word-octets : word (length p) w (p ++ (octets w n ++ t)) ≡ n
+  word-octets =
+      let z : w - w ≡ 0 = omega arith in
+      word-high w (le-refl w) ∙ ap (λ (j : ℕ). n / 256 ^ j) z ∙ div-one n
+
+-- the octets of a word are the octets that it was read from
+module _ (s : List ℕ) (i : ℕ) (oct : AreOctets s) where
+  pub octets-word : (w : ℕ) → i + w ≤ length s → octets w (word i w s) ≡ take w (drop i s)
+  octets-word zero h = refl
+  octets-word (suc w) h =
+      let x : ℕ = getD s (i + w) 0 in
+      let one : octets 1 x ≡ x ∷ [] = ap (λ (y : ℕ). y ∷ []) (omega (arith, oct (i + w))) in
+      let two : octets (w + 1) (word i w s * 256 ^ 1 + x) ≡ octets w (word i w s) ++ octets 1 x = octets-append w 1 (word i w s) x (omega (arith, oct (i + w))) in
+      let three : take (suc w) (drop i s) ≡ take w (drop i s) ++ (x ∷ []) =
+      take-suc (drop i s) w 0 (omega (arith, length-drop i s)) ∙ ap (λ (y : ℕ). take w (drop i s) ++ (y ∷ [])) (getD-drop i s w 0) in
+      ap (λ (k : ℕ). octets k (word i w s * 256 + x)) (sym (add-one w)) ∙ two
+      ∙ ap (λ (l : List ℕ). l ++ octets 1 x) (octets-word w (omega arith))
+      ∙ ap (λ (l : List ℕ). take w (drop i s) ++ l) one
+      ∙ sym three
+
+  pub word-lt : (w : ℕ) → word i w s < 256 ^ w
+  word-lt zero = lit< tt
+  word-lt (suc w) = rw (pow-suc 256 w) (omega (arith, word-lt w, oct (i + w)))
+
+-- a word of a part of the octets stands in the whole of them
+pub word-drop : (i j n : ℕ) (s : List ℕ) → word j n (drop i s) ≡ word (i + j) n s
+word-drop i j zero s = refl
+word-drop i j (suc n) s = rw (word-drop i j n s, getD-drop, add-assoc)
+
+pub word-take : (i n k : ℕ) (s : List ℕ) → i + n ≤ k → word i n (take k s) ≡ word i n s
+word-take i zero k s h = refl
+word-take i (suc n) k s h = rw (word-take i n k s (omega arith), getD-take k s (i + n) 0 (omega arith))

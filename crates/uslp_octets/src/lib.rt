@@ -1,0 +1,41 @@
+// Octets: copying them between slices, and numbers as octets, big-endian.
+ghost use mathlib.Core.Path.{_≡_};
+ghost use Prim.Native.Nat.{_+_, _*_};
+ghost use lib.ListN.{length};
+ghost use Rattle.uslp_octets.specs.Octets.{octets, overlaid};
+
+// Copies as many octets as both slices have; the rest of `to` stays.
+pub fn copy_octets(from: &[u8], to: &mut [u8])
+    ensures { λ _. ⌜ now (to .exit) ≡ overlaid (now (from .entry)) (now (to .entry)) ⌝ }
+{
+    let mut i: usize = 0;
+    while i < from.len() && i < to.len() {
+        to[i] = from[i];
+        i += 1;
+    }
+}
+
+// Fills `to` with a number's low octets.
+pub fn put_number(value: u64, to: &mut [u8])
+    ensures { λ _. ⌜ now (to .exit) ≡ octets (length (now (to .entry))) value ⌝ }
+{
+    let mut rest = value;
+    let mut i: usize = to.len();
+    while 0 < i {
+        i -= 1;
+        to[i] = (rest % 256) as u8;
+        rest = rest / 256;
+    }
+}
+
+pub fn be_u16(a: u8, b: u8) -> u16
+    ensures { λ r. ⌜ r ≡ a * 256 + b ⌝ }
+{
+    a as u16 * 256 + b as u16
+}
+
+pub fn be_u32(a: u8, b: u8, c: u8, d: u8) -> u32
+    ensures { λ r. ⌜ r ≡ ((a * 256 + b) * 256 + c) * 256 + d ⌝ }
+{
+    ((a as u32 * 256 + b as u32) * 256 + c as u32) * 256 + d as u32
+}
