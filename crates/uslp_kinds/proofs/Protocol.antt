@@ -1,0 +1,40 @@
+-- A protocol number that is known is the number of its id.
+-- Assumes nothing.
+use mathlib.Core.Path.{_≡_, refl, ap, sym, _∙_}
+use Prim.Native.Nat.{ℕ, zero, suc, _<_}
+use native.Mathlib.Omega.{arith}
+use native.Mathlib.Decide.{decLt, ℕ-discrete}
+use borrow.Author.Tests.{lt-ltb, le-ltb, eq-eqb, ne-eqb}
+use lib.ListN.{getD}
+use lib.Dec.{ltb}
+use mathlib.Core.Bool.{false}
+use Rattle.uslp_kinds.specs.Outcome.{done}
+use Rattle.uslp_kinds.specs.Kinds.{protocols, protocolNumber, protocolOf}
+use Rattle.uslp_kinds.specs.declared.UslpProtocolId.{UslpProtocolId}
+use Rattle.uslp_kinds.specs.declared.UslpProtocolId.the-variants.{Idle}
+use Rattle.uslp_kinds.proofs.Outcomes.{not-done, done-one}
+
+listed : (n : ℕ) → n < 9 → protocolNumber (getD protocols n Idle) ≡ n
+listed zero h = refl
+listed (suc zero) h = refl
+listed (suc (suc zero)) h = refl
+listed (suc (suc (suc zero))) h = refl
+listed (suc (suc (suc (suc zero)))) h = refl
+listed (suc (suc (suc (suc (suc zero))))) h = refl
+listed (suc (suc (suc (suc (suc (suc zero)))))) h = refl
+listed (suc (suc (suc (suc (suc (suc (suc zero))))))) h = refl
+listed (suc (suc (suc (suc (suc (suc (suc (suc zero)))))))) h = refl
+listed (suc (suc (suc (suc (suc (suc (suc (suc (suc k))))))))) h = absurd (omega arith)
+
+module _ (n : ℕ) {id : UslpProtocolId} (e : protocolOf n ≡ done id) where
+  pub protocol-number : protocolNumber id ≡ n
+  protocol-number =
+      elim (decLt n 9) [
+        | yes a ↦ ap protocolNumber (sym (done-one (rw (lt-ltb n 9 a) at e))) ∙ listed n a
+        | no a ↦
+            let nine : ltb n 9 ≡ false = le-ltb n 9 (omega arith) in
+            elim (ℕ-discrete n 31) [
+              | yes b ↦ ap protocolNumber (sym (done-one (rw (nine, eq-eqb n 31 b) at e))) ∙ sym b
+              | no b ↦ absurd (not-done (rw (nine, ne-eqb n 31 b) at e))
+            ]
+      ]
