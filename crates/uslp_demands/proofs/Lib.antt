@@ -4,3 +4,8 @@ pub mod OfChecksum
 pub mod OfKinds
 pub mod OfHeader
 pub mod OfField
+pub mod OfLayout
+pub mod OfFrame
+pub mod OfReader
+pub mod CasesHold
+pub mod Demand1

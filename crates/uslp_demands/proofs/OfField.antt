@@ -16,15 +16,10 @@ use Rattle.uslp_field.specs.declared.DataFieldHeaderAnswer.the-variants as fiel
 use Rattle.uslp_field.proofs.RoundTrip.{field-back}
 use Rattle.uslp_field.proofs as field
 use Rattle.uslp_demands.specs.Promise.{at, Allows, Settles}
+use Rattle.uslp_demands.specs.Samples.{whole, spanning}
 use Rattle.uslp_demands.proofs.Alike.{alike}
 
--- rule 7 with no pointer, rule 0 with one, and rule 7 with one, which no call makes
-abbrev whole : TransferFrameDataFieldHeader
-whole = record { «construction_rule» = NoSegmentation; «uslp_protocol_id» = UserDefinedOctetStream; «fhp_or_lvo» = Absent }
-
-abbrev spanning : TransferFrameDataFieldHeader
-spanning = record { «construction_rule» = PacketSpanningMultipleFrames; «uslp_protocol_id» = Idle; «fhp_or_lvo» = Present 0x0AF0 }
-
+-- rule 7 with a pointer, which no call makes
 abbrev odd : TransferFrameDataFieldHeader
 odd = record { «construction_rule» = NoSegmentation; «uslp_protocol_id» = UserDefinedOctetStream; «fhp_or_lvo» = Present 1 }
 

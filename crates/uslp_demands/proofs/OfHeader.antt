@@ -18,24 +18,10 @@ use Rattle.uslp_header.specs.declared.HeaderAnswer.the-variants as header-answe
 use Rattle.uslp_header.proofs.RoundTrip.{header-one}
 use Rattle.uslp_header.proofs as header
 use Rattle.uslp_demands.specs.Promise.{at, Allows, Settles}
+use Rattle.uslp_demands.specs.Samples.{some, made}
 use Rattle.uslp_demands.proofs.Alike.{alike}
 
--- spacecraft 0x1234, destination, channel 5, map 3, eleven octets, count 7 in one octet; and its octets
-abbrev some : PrimaryHeader
-some =
-    record {
-      «spacecraft_id» = 0x1234;
-      «source_or_dest_field» = Dest;
-      «vc_id» = 5;
-      «map_id» = 3;
-      «frame_len_field» = 10;
-      «sequence_control_flag» = SequenceControlledQoS;
-      «protocol_control_command_flag» = TfdfContainsUserData;
-      «ocf_flag» = false;
-      «vc_frame_count_len» = 1;
-      «vc_frame_count» = 7;
-    }
-
+-- its octets, and as many zeros
 abbrev octets : List ℕ
 octets = 0xC1 ∷ 0x23 ∷ 0x48 ∷ 0xA6 ∷ 0x00 ∷ 0x0A ∷ 0x01 ∷ 0x07 ∷ []
 
@@ -48,10 +34,6 @@ high = withCount 1 256 some
 
 abbrev wide : PrimaryHeader
 wide = withCount 9 0 some
-
--- the same as made, with no count
-abbrev made : PrimaryHeader
-made = withCount 0 0 some
 
 pub new-settles : Settles header.PrimaryHeader.new.Kinds.ps header.PrimaryHeader.new.Kinds.r header.PrimaryHeader.new.Reads.Pre header.PrimaryHeader.new.Reads.Learnt
 new-settles = record { total = λ κs a. tt; same = λ κs a x y s t. alike (one-to-one paperHeader (back header-answer.Done header-answer.Refused) header-one (s ∙ sym t)) refl }

@@ -1,1 +1,3 @@
 pub mod Promise
+pub mod Samples
+pub mod Cases

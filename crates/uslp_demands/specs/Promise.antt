@@ -27,6 +27,11 @@ module _ {n : ℕ} (ps : List (PK n)) (r : RK n) where
     pub total : (κs : Lfts n) (a : Dens κs ps) → pre κs a
     pub same : (κs : Lfts n) (a : Dens κs ps) (x y : Left κs a) → Allows post κs a x → Allows post κs a y → x ≡ y
 
+  -- the same of a function that hands back a part of what it was lent: what the part shows is equal, where it lies is not spoken of
+  pub record Shows (pre : In n ps) (post : Out n ps r) (shown : (κs : Lfts n) (a : Dens κs ps) → resT r κs .Denot → List ℕ) : Type 0 where
+    pub total : (κs : Lfts n) (a : Dens κs ps) → pre κs a
+    pub same : (κs : Lfts n) (a : Dens κs ps) (x y : Left κs a) → Allows post κs a x → Allows post κs a y → shown κs a (x .0) ≡ shown κs a (y .0)
+
   -- a program, as far as a promise sees it: what it leaves on each argument
   abbrev pub Program : Type 0
   Program = (κs : Lfts n) (a : Dens κs ps) → Left κs a

@@ -31,3 +31,8 @@ pub written-done : {A : Type 0} (o : Outcome A) (new found : List ℕ) {x : A} {
     → written o new found ≡ leaving (done x) s → (o ≡ done x) × (new ≡ s)
 written-done (done y) new found e = (cc, cc)
 written-done (refused k vs) new found e = let z : _≡_ {A = ℕ} 0 1 = cc in absurd (omega arith)
+
+-- and one that was refused leaves those that it found
+pub refused-keeps : {A : Type 0} (o : Outcome A) (new found : List ℕ) {k : ℕ} {vs s : List ℕ} → written o new found ≡ leaving (refused k vs) s → s ≡ found
+refused-keeps (done y) new found e = let z : _≡_ {A = ℕ} 0 1 = cc in absurd (omega arith)
+refused-keeps (refused j ws) new found e = cc

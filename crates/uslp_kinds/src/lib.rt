@@ -1,7 +1,7 @@
 // The refusals of the library, the kinds of field that a frame carries, and the answers on numbers and ids.
 ghost use mathlib.Core.Path.{_≡_};
 ghost use Rattle.uslp_kinds.specs.Kinds.{sourceOrDestNumber, sourceOrDestOf, bypassNumber, bypassOf, commandNumber, commandOf, ruleNumber, ruleOf, fixedLength, protocolNumber, protocolOf};
-ghost use Rattle.uslp_kinds.specs.Answers.{paperProtocol};
+ghost use Rattle.uslp_kinds.specs.Answers.{sheet, paperProtocol};
 
 // Whether the spacecraft id names the source or the destination of the frame.
 pub enum SourceOrDestField {
@@ -84,6 +84,45 @@ pub enum LengthAnswer {
 pub enum ProtocolIdAnswer {
     Done(UslpProtocolId),
     Refused(Refusal),
+}
+
+impl Refusal {
+    // The number of the row in the table of refusals.
+    pub fn number(self) -> u8
+        ensures { λ r. ⌜ r ≡ sheet self .0 ⌝ }
+    {
+        match self {
+            Refusal::ShortSource {
+                found: _,
+                expected: _,
+            } => 1,
+            Refusal::ShortTarget {
+                found: _,
+                expected: _,
+            } => 2,
+            Refusal::Truncated => 3,
+            Refusal::BadVersion(_) => 4,
+            Refusal::BadProtocol(_) => 5,
+            Refusal::BadChecksum(_) => 6,
+            Refusal::FrameTooShort {
+                length: _,
+                needed: _,
+            } => 7,
+            Refusal::BadCount { count: _, width: _ } => 8,
+            Refusal::BadPointer(_) => 9,
+            Refusal::BadField => 10,
+            Refusal::OcfMissing => 11,
+            Refusal::TooLong => 12,
+            Refusal::NotOpen => 13,
+            Refusal::OtherWidth {
+                frame: _,
+                opened: _,
+            } => 14,
+            Refusal::AlreadyOpen => 15,
+            Refusal::TableFull => 16,
+            Refusal::TotalFull => 17,
+        }
+    }
 }
 
 impl SourceOrDestField {

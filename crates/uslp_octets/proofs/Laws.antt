@@ -2,14 +2,14 @@
 -- Assumes nothing.
 use mathlib.Core.Path.{_≡_, refl, ap, sym, _∙_}
 use Prim.Native.Nat.{ℕ, zero, suc, _+_, _*_, _/_, _%_, _^_, _-_, _<_, _≤_}
-use mathlib.Core.List.{List, [], _∷_, _++_}
+use mathlib.Core.List.{List, [], _∷_, _++_, append-nil}
 use native.Mathlib.Omega.{arith}
 use native.Mathlib.Numerals.{add-one}
-use native.Mathlib.Nat.{mul-suc, pow-suc, mul-add-div-right, div-div-eq-div-mul, suc-add, zero-add, mul-assoc, one-le-pow, div-eq-of-lt, mul-comm, add-comm, add-mul, add-zero, add-assoc, sub-zero, le-refl, div-one}
+use native.Mathlib.Nat.{mul-suc, pow-suc, mul-add-div-right, div-div-eq-div-mul, suc-add, zero-add, mul-assoc, one-le-pow, div-eq-of-lt, mul-comm, add-comm, add-mul, add-zero, add-assoc, sub-zero, le-refl, div-one, pow-zero}
 use lib.Pow.{pow-add}
 use lib.Dec.{lit<}
-use lib.ListN.{length, take, drop, getD, length-drop, List·getD-append}
-use lib.Seq.{getD-append-add, getD-drop, getD-take, take-suc}
+use lib.ListN.{length, take, drop, getD, set, length-drop, List·getD-append}
+use lib.Seq.{getD-append-add, getD-drop, getD-take, take-suc, append-snoc, set-at, length-take-le, take-length}
 use Rattle.uslp_octets.specs.Octets.{AreOctets, Field, bitsIn, valueOf, octets, pack, word}
 
 pub pow-eight : (w : ℕ) → 2 ^ (8 * w) ≡ 256 ^ w
@@ -116,3 +116,34 @@ word-drop i j (suc n) s = rw (word-drop i j n s, getD-drop, add-assoc)
 pub word-take : (i n k : ℕ) (s : List ℕ) → i + n ≤ k → word i n (take k s) ≡ word i n s
 word-take i zero k s h = refl
 word-take i (suc n) k s h = rw (word-take i n k s (omega arith), getD-take k s (i + n) 0 (omega arith))
+
+-- a run of cells filled from the end, whatever the cells: one more in front, all of them, none of them
+module _ (run : ℕ → List ℕ) (cell : ℕ → ℕ) (more : (k : ℕ) → run (suc k) ≡ cell k ∷ run k) (d : List ℕ) where
+  pub filled-more : (i : ℕ) → 0 < i → i ≤ length d
+      → set (take i d ++ run (length d - i)) (i - 1) (cell (length d - i)) ≡ take (i - 1) d ++ run (length d - (i - 1))
+  filled-more i h k =
+      let j : ℕ = i - 1 in
+      let e : i ≡ suc (i - 1) = omega arith in
+      let f : length d - (i - 1) ≡ suc (length d - i) = omega arith in
+      ap (λ (n : ℕ). set (take n d ++ run (length d - i)) (i - 1) (cell (length d - i))) e
+      ∙ ap (λ (l : List ℕ). set (l ++ run (length d - i)) (i - 1) (cell (length d - i))) (take-suc d (i - 1) 0 (omega arith))
+      ∙ ap (λ (l : List ℕ). set l (i - 1) (cell (length d - i))) (append-snoc (take (i - 1) d) (getD d (i - 1) 0) (run (length d - i)))
+      ∙ set-at (take (i - 1) d) (getD d (i - 1) 0) (run (length d - i)) (cell (length d - i)) (i - 1) (length-take-le (i - 1) d (omega arith))
+      ∙ ap (λ (l : List ℕ). take (i - 1) d ++ l) (sym (ap run f ∙ more (length d - i)))
+
+  pub filled-all : (i : ℕ) → i ≡ 0 → take i d ++ run (length d - i) ≡ run (length d)
+  filled-all i e = ap (λ (k : ℕ). take k d ++ run (length d - k)) e ∙ ap run (sub-zero (length d))
+
+  pub filled-none : run 0 ≡ [] → d ≡ take (length d) d ++ run (length d - length d)
+  filled-none e =
+      let z : 0 ≡ length d - length d = omega arith in
+      sym (take-length d) ∙ sym (append-nil (take (length d) d)) ∙ ap (λ (l : List ℕ). take (length d) d ++ l) (sym e ∙ ap run z)
+
+-- what is left of a number after so many cells of a base
+pub rest-less : (b n i v : ℕ) → 0 < i → i ≤ n → v / b ^ (n - i) / b ≡ v / b ^ (n - (i - 1))
+rest-less b n i v h k =
+    let f : n - (i - 1) ≡ suc (n - i) = omega arith in
+    div-div-eq-div-mul v (b ^ (n - i)) b ∙ ap (λ (p : ℕ). v / p) (sym (pow-suc b (n - i)) ∙ ap (λ (m : ℕ). b ^ m) (sym f))
+
+pub rest-all : (b n v : ℕ) → v ≡ v / b ^ (n - n)
+rest-all b n v = let z : 0 ≡ n - n = omega arith in sym (div-one v) ∙ ap (λ (p : ℕ). v / p) (sym (pow-zero b)) ∙ ap (λ (k : ℕ). v / b ^ k) z

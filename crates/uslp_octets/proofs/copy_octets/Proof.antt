@@ -12,8 +12,6 @@ use lib.Seq.{paste, paste-zero, paste-suc, take-all}
 use Rattle.uslp_octets.specs.Octets.{overlaid}
 use Rattle.uslp_octets.proofs.copy_octets.Statement.{statement}
 use Rattle.uslp_octets.proofs.copy_octets.Tie as tie
-use Rattle.uslp_octets.proofs.copy_octets.Reads as reads
-use Rattle.uslp_octets.proofs.copy_octets.Lts as lts
 
 abbrev Inv-loop : tie.InvT-loop
 Inv-loop from to₀ i₀ to i = (i ≤ length from) × (i ≤ length to₀) × (length to ≡ length to₀) × (to ≡ paste to₀ 0 from i)

@@ -1,3 +1,4 @@
+-- `uslp_kinds::ConstructionRule::applicable_to_fixed_len_tfdz` meets its contract: each arm knows its rule.
 use mathlib.Core.Path.{sym, ap}
 use Rattle.uslp_kinds.specs.Kinds.{fixedLength}
 use borrow.Author.Needs.{needs}
@@ -5,8 +6,6 @@ use Rattle.uslp_kinds.proofs.ConstructionRule.applicable_to_fixed_len_t
   statement,
 }
 use Rattle.uslp_kinds.proofs.ConstructionRule.applicable_to_fixed_len_tfdz.Tie as tie
-use Rattle.uslp_kinds.proofs.ConstructionRule.applicable_to_fixed_len_tfdz.Reads as reads
-use Rattle.uslp_kinds.proofs.ConstructionRule.applicable_to_fixed_len_tfdz.Lts as lts
 
 enum-told : tie.Need-enum-told
 enum-told c = search needs

@@ -1,11 +1,10 @@
+-- `uslp_kinds::ConstructionRule::from_number` meets its contract: each arm knows the number that it was taken for.
 use mathlib.Core.Path.{_≡_}
 use Prim.Native.Nat.{_%_, _≤_}
 use Rattle.uslp_kinds.proofs.Arms.{past}
 use native.Mathlib.Omega.{arith}
 use Rattle.uslp_kinds.proofs.ConstructionRule.from_number.Statement.{statement}
 use Rattle.uslp_kinds.proofs.ConstructionRule.from_number.Tie as tie
-use Rattle.uslp_kinds.proofs.ConstructionRule.from_number.Reads as reads
-use Rattle.uslp_kinds.proofs.ConstructionRule.from_number.Lts as lts
 
 returns : tie.Need-returns
 returns c = rw (c .match .keys1)

@@ -1,10 +1,9 @@
+-- `uslp_kinds::ProtocolControlCommandFlag::from_number` meets its contract: each arm knows the number that it was taken for.
 use mathlib.Core.Path.{_≡_}
 use Prim.Native.Nat.{_%_}
 use native.Mathlib.Omega.{arith}
 use Rattle.uslp_kinds.proofs.ProtocolControlCommandFlag.from_number.Statement.{statement}
 use Rattle.uslp_kinds.proofs.ProtocolControlCommandFlag.from_number.Tie as tie
-use Rattle.uslp_kinds.proofs.ProtocolControlCommandFlag.from_number.Reads as reads
-use Rattle.uslp_kinds.proofs.ProtocolControlCommandFlag.from_number.Lts as lts
 
 returns : tie.Need-returns
 returns c = rw (c .if1 .taken)

@@ -1,3 +1,4 @@
+-- `uslp_kinds::UslpProtocolId::from_number` meets its contract: each arm knows the number that it was taken for.
 use mathlib.Core.Path.{_≡_, sym, ap}
 use borrow.Author.Tests.{le-ltb, ne-eqb}
 use Rattle.uslp_kinds.proofs.Arms.{past}
@@ -5,8 +6,6 @@ use native.Mathlib.Omega.{arith}
 use Rattle.uslp_kinds.specs.Kinds.{protocolOf}
 use Rattle.uslp_kinds.proofs.UslpProtocolId.from_number.Statement.{statement}
 use Rattle.uslp_kinds.proofs.UslpProtocolId.from_number.Tie as tie
-use Rattle.uslp_kinds.proofs.UslpProtocolId.from_number.Reads as reads
-use Rattle.uslp_kinds.proofs.UslpProtocolId.from_number.Lts as lts
 
 returns : tie.Need-returns
 returns c = sym (ap protocolOf (c .match .keys1))

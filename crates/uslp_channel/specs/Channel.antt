@@ -1,0 +1,58 @@
+-- Hearing a frame: what it answers, what it hands on, and the record that it leaves, in the order of document 01.
+use Prim.Native.Nat.{ℕ}
+use mathlib.Core.Bool.{Bool}
+use mathlib.Core.List.{List, []}
+use Rattle.uslp_kinds.specs.Outcome.{Outcome, done, refused}
+use Rattle.uslp_kinds.specs.Answers.{refusal}
+use Rattle.uslp_header.specs.declared.PrimaryHeader.{PrimaryHeader}
+use Rattle.uslp_reader.specs.Reader.{frameReading, contentsIn}
+use Rattle.uslp_reader.specs.declared.TransferFrame.{TransferFrame}
+use Rattle.uslp_record.specs.Record.{Kept, keeping}
+use Rattle.uslp_record.specs.Hearing.{hearing}
+use Rattle.uslp_record.specs.declared.Channel.{Channel}
+use Rattle.uslp_record.specs.declared.ChannelRecord.{ChannelRecord}
+use Rattle.uslp_record.specs.declared.Arrival.{Arrival}
+use Rattle.uslp_record.specs.declared.Arrival.the-variants as arrival
+use Rattle.uslp_channel.specs.declared.FrameArrival.{FrameArrival}
+use Rattle.uslp_channel.specs.declared.FrameArrival.the-variants.{New, Repeat, Late}
+use Rattle.uslp_channel.specs.declared.FrameHeard.{FrameHeard}
+use Rattle.uslp_channel.specs.declared.FrameHeard.the-variants as heard-answer
+
+abbrev pub paperFrameHeard : FrameHeard → Outcome FrameArrival
+paperFrameHeard (heard-answer.Done a) = done a
+paperFrameHeard (heard-answer.Refused r) = refusal r
+
+-- a channel is a spacecraft id with a channel number
+abbrev pub channelOf : PrimaryHeader → Channel
+channelOf h = record { «spacecraft_id» = h .«spacecraft_id»; «vc_id» = h .«vc_id» }
+
+-- only NEW brings the frame along
+abbrev pub frameArrival : TransferFrame → Arrival → FrameArrival
+frameArrival x (arrival.New gap) = New gap x
+frameArrival x arrival.Repeat = Repeat
+frameArrival x arrival.Late = Late
+
+abbrev pub withFrame : TransferFrame → Kept Arrival → Kept FrameArrival
+withFrame x (keeping (done a) r) = keeping (done (frameArrival x a)) r
+withFrame x (keeping (refused k vs) r) = keeping (refused k vs) r
+
+-- a frame that was read is counted for its channel: 13, 14, 17
+abbrev pub heardIn : ChannelRecord → TransferFrame → Kept FrameArrival
+heardIn r x =
+    withFrame x
+    (hearing r (channelOf (x .«primary_header»)) (x .«primary_header» .«vc_frame_count_len») (x .«primary_header» .«vc_frame_count»))
+
+abbrev pub afterReading : ChannelRecord → Outcome TransferFrame → Kept FrameArrival
+afterReading r (done x) = heardIn r x
+afterReading r (refused k vs) = keeping (refused k vs) r
+
+-- hearing octets: any reader's refusal is the answer
+abbrev pub frameHearing : ChannelRecord → List ℕ → Bool → Kept FrameArrival
+frameHearing r s fecf = afterReading r (frameReading s fecf)
+
+-- what an answer hands on of the octets
+abbrev pub handedOn : Outcome FrameArrival → List ℕ → List ℕ
+handedOn (done (New gap x)) s = contentsIn x s
+handedOn (done Repeat) s = []
+handedOn (done Late) s = []
+handedOn (refused k vs) s = []

@@ -1,0 +1,101 @@
+// Hearing a frame: it is read first, then counted; NEW hands its data on.
+use uslp_header::PrimaryHeader;
+use uslp_kinds::Refusal;
+use uslp_reader::FrameAnswer;
+use uslp_reader::TransferFrame;
+use uslp_record::Arrival;
+use uslp_record::Channel;
+use uslp_record::ChannelRecord;
+use uslp_record::HearAnswer;
+ghost use mathlib.Core.Path.{_≡_};
+ghost use Rattle.uslp_record.specs.Record.{keeping};
+ghost use Rattle.uslp_reader.specs.Reader.{paperFrame};
+ghost use Rattle.uslp_channel.specs.Channel.{channelOf, paperFrameHeard, frameArrival, heardIn, frameHearing, handedOn};
+
+// What hearing a frame finds: NEW, with the frame and how many are missing before it, or nothing to hand on.
+pub enum FrameArrival {
+    New { gap: u64, frame: TransferFrame },
+    Repeat,
+    Late,
+}
+
+pub enum FrameHeard {
+    Done(FrameArrival),
+    Refused(Refusal),
+}
+
+// An answer to a hearing, and the record after it.
+pub struct FrameHearing {
+    pub answer: FrameHeard,
+    pub next: ChannelRecord,
+}
+
+// Refuses what reading refuses, then NOT_OPEN, OTHER_WIDTH, TOTAL_FULL.
+pub fn hear(channels: ChannelRecord, buf: &[u8], has_fecf: bool) -> FrameHearing
+    ensures { λ r. ⌜ keeping (paperFrameHeard (r .answer)) (r .next) ≡ frameHearing channels (now (buf .entry)) «has_fecf» ⌝ }
+{
+    match TransferFrame::from_bytes(buf, has_fecf) {
+        FrameAnswer::Done(frame) => count_frame(channels, frame),
+        FrameAnswer::Refused(refusal) => FrameHearing {
+            answer: FrameHeard::Refused(refusal),
+            next: channels,
+        },
+    }
+}
+
+// The data that a hearing hands on: a part of the lent octets, nothing unless the frame is NEW.
+pub fn handed_on(answer: FrameHeard, buf: &[u8]) -> &[u8]
+    ensures { λ r. ⌜ now r ≡ handedOn (paperFrameHeard answer) (now (buf .entry)) ⌝ }
+{
+    match answer {
+        FrameHeard::Done(arrival) => match arrival {
+            FrameArrival::New { gap: _, frame } => frame.data(buf),
+            FrameArrival::Repeat => &buf[0..0],
+            FrameArrival::Late => &buf[0..0],
+        },
+        FrameHeard::Refused(_) => &buf[0..0],
+    }
+}
+
+// The channel that a frame belongs to.
+pub fn channel_of(header: PrimaryHeader) -> Channel
+    ensures { λ r. ⌜ r ≡ channelOf header ⌝ }
+{
+    Channel {
+        spacecraft_id: header.spacecraft_id,
+        vc_id: header.vc_id,
+    }
+}
+
+fn count_frame(channels: ChannelRecord, frame: TransferFrame) -> FrameHearing
+    ensures { λ r. ⌜ keeping (paperFrameHeard (r .answer)) (r .next) ≡ heardIn channels frame ⌝ }
+{
+    let header = frame.primary_header;
+    let hearing = channels.hear_count(
+        channel_of(header),
+        header.vc_frame_count_len,
+        header.vc_frame_count,
+    );
+    let counted = hearing.answer;
+    let next = hearing.next;
+    match counted {
+        HearAnswer::Done(arrival) => FrameHearing {
+            answer: FrameHeard::Done(frame_arrival(arrival, frame)),
+            next,
+        },
+        HearAnswer::Refused(refusal) => FrameHearing {
+            answer: FrameHeard::Refused(refusal),
+            next,
+        },
+    }
+}
+
+fn frame_arrival(arrival: Arrival, frame: TransferFrame) -> FrameArrival
+    ensures { λ r. ⌜ r ≡ frameArrival frame arrival ⌝ }
+{
+    match arrival {
+        Arrival::New(gap) => FrameArrival::New { gap, frame },
+        Arrival::Repeat => FrameArrival::Repeat,
+        Arrival::Late => FrameArrival::Late,
+    }
+}

@@ -1,0 +1,99 @@
+-- Where a channel stands in the record, and which calls leave it standing so.
+use mathlib.Core.Path.{_≡_, refl, sym, _∙_, ap, subst}
+use mathlib.Core.Bool.{true, false}
+use Prim.Native.Nat.{ℕ, _<_}
+use native.Mathlib.Omega.{arith}
+use lib.ListN.{length, length-set}
+use Rattle.uslp_kinds.specs.Outcome.{done}
+use Rattle.uslp_record.specs.Slots.{sameChannel, stateHolds, holds, isClosed, find, vacant, slotOf, stateAt, put}
+use Rattle.uslp_record.specs.Record.{Kept, keeping, opening, closing}
+use Rattle.uslp_record.specs.Hearing.{hearing}
+use Rattle.uslp_record.specs.declared.Channel.{Channel}
+use Rattle.uslp_record.specs.declared.SlotState.{SlotState}
+use Rattle.uslp_record.specs.declared.SlotState.the-variants.{Closed, Opened, Heard}
+use Rattle.uslp_record.specs.declared.ChannelRecord.{ChannelRecord}
+use Rattle.uslp_record.specs.declared.Arrival.{Arrival}
+use Rattle.uslp_record.proofs.Seek.{finds, vacates}
+use Rattle.uslp_counting.specs.History.{recordOf}
+use Rattle.uslp_counting.proofs.Slots.{true-false, same-self, holds-other, closed-holds, seek-passes, seek-set, seek-new, put-same, put-other}
+use Rattle.uslp_counting.proofs.Ways.{opening-ways, closing-ways, hearing-ways}
+
+-- the channel K is in a slot, in the state t
+pub record Stands (K : Channel) (r : ChannelRecord) (t : SlotState) : Type 0 where
+  pub eight : length (r .slots) ≡ 8
+  pub there : find K (r .slots) < 8
+  pub state : stateAt r (find K (r .slots)) ≡ t
+
+-- a slot is replaced, and the channel is found there
+stands-put : (K : Channel) (r : ChannelRecord) (i : ℕ) (u : SlotState) → length (r .slots) ≡ 8 → i < 8 → find K (put r i u .slots) ≡ i → Stands K (put r i u) u
+stands-put K r i u long low spot = record {
+  eight = length-set (r .slots) i (slotOf u) ∙ long;
+  there = omega arith;
+  state = ap (stateAt (put r i u)) spot ∙ put-same r i u long low;
+}
+
+module _ (K : Channel) (r : ChannelRecord) (t : SlotState) (at : Stands K r t) where
+  holds-here : stateHolds K (stateAt r (find K (r .slots))) ≡ true
+  holds-here = seek-passes (holds K) (find K) (finds K) (r .slots) (slotOf Closed) (omega (arith, at .eight, at .there))
+
+  -- another slot is replaced
+  stands-other : (j : ℕ) (u : SlotState) → j < 8 → stateHolds K (stateAt r j) ≡ false → stateHolds K u ≡ false → Stands K (put r j u) t
+  stands-other j u h e f =
+      let spot : find K (put r j u .slots) ≡ find K (r .slots) =
+      seek-set (holds K) (find K) (finds K) (r .slots) j (slotOf u) (slotOf Closed) (omega (arith, at .eight)) (f ∙ sym e) in
+      record {
+        eight = length-set (r .slots) j (slotOf u) ∙ at .eight;
+        there = omega (arith, spot, at .there);
+        state = ap (stateAt (put r j u)) spot
+            ∙ put-other r j u (find K (r .slots)) (λ i. true-false holds-here (ap (λ (v : ℕ). stateHolds K (stateAt r v)) i ∙ e))
+            ∙ at .state;
+      }
+
+  -- its own is
+  pub stands-own : (u : SlotState) → stateHolds K u ≡ true → Stands K (put r (find K (r .slots)) u) u
+  stands-own u f =
+      let i = find K (r .slots) in
+      stands-put K r i u (at .eight) (at .there)
+      (seek-set (holds K) (find K) (finds K) (r .slots) i (slotOf u) (slotOf Closed) (omega (arith, at .eight, at .there)) (f ∙ sym holds-here))
+
+  -- another channel is opened, closed, heard
+  module _ (k : Channel) (other : sameChannel k K ≡ false) where
+    elsewhere-holds : find k (r .slots) < 8 → stateHolds K (stateAt r (find k (r .slots))) ≡ false
+    elsewhere-holds low =
+        holds-other k K (stateAt r (find k (r .slots))) other
+        (seek-passes (holds k) (find k) (finds k) (r .slots) (slotOf Closed) (omega (arith, at .eight)))
+
+    pub stands-opening : (w : ℕ) → Stands K (recordOf (opening r k w)) t
+    stands-opening w =
+        opening-ways r k (λ (q : Kept (Unit {0})). Stands K (recordOf q) t) w (λ j vs. at)
+        (λ none low.
+        stands-other (vacant (r .slots)) (Opened k w) low
+        (closed-holds K (stateAt r (vacant (r .slots))) (seek-passes isClosed vacant vacates (r .slots) (slotOf Closed) (omega (arith, at .eight)))) other)
+
+    pub stands-closing : Stands K (recordOf (closing r k)) t
+    stands-closing =
+        closing-ways r k (λ (q : Kept (Unit {0})). Stands K (recordOf q) t) (λ j vs. at)
+        (λ low. stands-other (find k (r .slots)) Closed low (elsewhere-holds low) refl)
+
+    pub stands-hearing : (w n : ℕ) → Stands K (recordOf (hearing r k w n)) t
+    stands-hearing w n =
+        hearing-ways r k (λ (q : Kept Arrival). Stands K (recordOf q) t) w n (λ j vs. at)
+        (λ low a u. stands-other (find k (r .slots)) (Heard k w u) low (elsewhere-holds low) other)
+
+  -- this one is opened again
+  pub stands-again : (w : ℕ) → Stands K (recordOf (opening r K w)) t
+  stands-again w =
+      opening-ways r K (λ (q : Kept (Unit {0})). Stands K (recordOf q) t) w (λ j vs. at)
+      (λ none low. absurd (omega (arith, none, at .there)))
+
+-- opening a channel
+pub stands-opened : (K : Channel) (w : ℕ) (r₀ r : ChannelRecord) → length (r₀ .slots) ≡ 8 → opening r₀ K w ≡ keeping (done tt) r → Stands K r (Opened K w)
+stands-opened K w r₀ r long =
+    opening-ways r₀ K (λ (q : Kept (Unit {0})). q ≡ keeping (done tt) r → Stands K r (Opened K w)) w
+    (λ j vs e. let z : _≡_ {A = ℕ} 0 1 = cc in absurd (omega arith))
+    (λ none low e.
+    let i = vacant (r₀ .slots) in
+    let new : put r₀ i (Opened K w) ≡ r = cc in
+    subst (λ (q : ChannelRecord). Stands K q (Opened K w)) new
+    (stands-put K r₀ i (Opened K w) long low
+    (seek-new (holds K) (find K) (finds K) (r₀ .slots) i (slotOf (Opened K w)) (omega arith) (omega arith) (same-self K))))

@@ -1,0 +1,133 @@
+-- Histories of calls as the console makes them, octets in; the sender of a channel; and what the record is to count.
+use mathlib.Core.Path.{_≡_}
+use mathlib.Core.Bool.{Bool, true, false, cond}
+use mathlib.Core.List.{List, [], _∷_, _++_}
+use Prim.Native.Nat.{ℕ, suc, _+_, _-_, _^_, _%_, _<_}
+use Rattle.uslp_kinds.specs.Outcome.{Outcome, done, refused}
+use Rattle.uslp_kinds.specs.declared.OperationalControlField.{OperationalControlField}
+use Rattle.uslp_header.specs.declared.PrimaryHeader.{PrimaryHeader}
+use Rattle.uslp_field.specs.declared.TransferFrameDataFieldHeader.{TransferFrameDataFieldHeader}
+use Rattle.uslp_layout.specs.Layout.{layout, WellFormed}
+use Rattle.uslp_reader.specs.Reader.{frameReading, contentsIn}
+use Rattle.uslp_reader.specs.declared.TransferFrame.{TransferFrame}
+use Rattle.uslp_record.specs.Slots.{sameChannel, find, stateAt}
+use Rattle.uslp_record.specs.Record.{Kept, keeping, opening, closing, missingOf}
+use Rattle.uslp_record.specs.declared.Channel.{Channel}
+use Rattle.uslp_record.specs.declared.ChannelRecord.{ChannelRecord}
+use Rattle.uslp_channel.specs.Channel.{channelOf, frameHearing}
+use Rattle.uslp_channel.specs.declared.FrameArrival.{FrameArrival}
+use Rattle.uslp_channel.specs.declared.FrameArrival.the-variants.{New, Repeat, Late}
+
+-- a call of the console
+pub data Call : Type 0 where
+  hears : List ℕ → Bool → Call
+  opens : Channel → ℕ → Call
+  closes : Channel → Call
+
+abbrev pub recordOf : {A : Type 0} → Kept A → ChannelRecord
+recordOf (keeping o r) = r
+
+abbrev pub answerOf : {A : Type 0} → Kept A → Outcome A
+answerOf (keeping o r) = o
+
+-- the record after a call, and after a history of them
+unfoldable pub after : ChannelRecord → Call → ChannelRecord
+after r (hears s fecf) = recordOf (frameHearing r s fecf)
+after r (opens k width) = recordOf (opening r k width)
+after r (closes k) = recordOf (closing r k)
+
+unfoldable pub run : ChannelRecord → List Call → ChannelRecord
+run r [] = r
+run r (c ∷ cs) = run (after r c) cs
+
+-- a frame handed on: its gap, and its data
+abbrev pub Handing : Type 0
+Handing = ℕ × List ℕ
+
+-- what one hearing hands on for the channel K
+abbrev pub handing : Channel → List ℕ → Outcome FrameArrival → List Handing
+handing K s (done (New gap x)) = cond (sameChannel (channelOf (x .«primary_header»)) K) ((gap, contentsIn x s) ∷ []) []
+handing K s (done Repeat) = []
+handing K s (done Late) = []
+handing K s (refused k vs) = []
+
+-- the frames that a history hands on for the channel K, in order
+unfoldable pub handed : Channel → ChannelRecord → List Call → List Handing
+handed K r [] = []
+handed K r (hears s fecf ∷ cs) = handing K s (answerOf (frameHearing r s fecf)) ++ handed K (recordOf (frameHearing r s fecf)) cs
+handed K r (opens k width ∷ cs) = handed K (after r (opens k width)) cs
+handed K r (closes k ∷ cs) = handed K (after r (closes k)) cs
+
+-- no hearing of a frame of the channel K gets TOTAL_FULL
+unfoldable pub Unfilled : Channel → ChannelRecord → List Call → Type 0
+Unfilled K r [] = Unit {0}
+Unfilled K r (hears s fecf ∷ cs) =
+    ((x : TransferFrame) → frameReading s fecf ≡ done x → sameChannel (channelOf (x .«primary_header»)) K ≡ true → answerOf (frameHearing r s fecf) ≡ refused 17 [] → ⊥)
+    × Unfilled K (recordOf (frameHearing r s fecf)) cs
+Unfilled K r (opens k width ∷ cs) = Unfilled K (after r (opens k width)) cs
+Unfilled K r (closes k ∷ cs) = Unfilled K (after r (closes k)) cs
+
+-- what the record has missing for the channel K
+abbrev pub missingFor : Channel → ChannelRecord → ℕ
+missingFor K r = missingOf (stateAt r (find K (r .slots)))
+
+-- the sender of the channel K: a frame of the layout for each place, of this width, numbered consecutively
+pub record Sender (K : Channel) (width : ℕ) (fecf : Bool) : Type 0 where
+  pub start : ℕ
+  pub header : ℕ → PrimaryHeader
+  pub field : ℕ → TransferFrameDataFieldHeader
+  pub contents : ℕ → List ℕ
+  pub ocf : ℕ → OperationalControlField
+  pub spare : ℕ → ℕ
+  pub well-formed : (p : ℕ) → WellFormed fecf (header p) (field p) (contents p) (ocf p)
+  pub spare-fits : (p : ℕ) → spare p < 4
+  pub of-channel : (p : ℕ) → channelOf (header p) ≡ K
+  pub of-width : (p : ℕ) → header p .«vc_frame_count_len» ≡ width
+  pub numbered : (p : ℕ) → header p .«vc_frame_count» ≡ (start + p) % 256 ^ width
+
+-- the octets of the frame at a place
+abbrev pub frameAt : {K : Channel} {width : ℕ} {fecf : Bool} → Sender K width fecf → ℕ → List ℕ
+frameAt {fecf = fecf} S p = layout fecf (S .spare p) (S .header p) (S .field p) (S .contents p) (S .ocf p)
+
+-- What may happen while the channel K is open: the undamaged frame at a place arrives, perhaps with octets behind it; octets that the
+-- reader refuses; a frame of another channel; a frame of this channel in another width; other channels are opened and closed; this one
+-- is opened again.
+pub data Event (K : Channel) (width : ℕ) : Type 0 where
+  arrives : ℕ → List ℕ → Event K width
+  damaged : (s : List ℕ) (fecf : Bool) (k : ℕ) (vs : List ℕ) → frameReading s fecf ≡ refused k vs → Event K width
+  elsewhere : (s : List ℕ) (fecf : Bool) (x : TransferFrame) → frameReading s fecf ≡ done x → sameChannel (channelOf (x .«primary_header»)) K ≡ false → Event K width
+  misfits : (s : List ℕ) (fecf : Bool) (x : TransferFrame) → frameReading s fecf ≡ done x → (x .«primary_header» .«vc_frame_count_len» ≡ width → ⊥) → Event K width
+  opened : (k : Channel) (w : ℕ) → sameChannel k K ≡ false → Event K width
+  closed : (k : Channel) → sameChannel k K ≡ false → Event K width
+  again : ℕ → Event K width
+
+module _ {K : Channel} {width : ℕ} {fecf : Bool} (S : Sender K width fecf) where
+  -- the call that the console makes
+  abbrev pub callOf : Event K width → Call
+  callOf (arrives p behind) = hears (frameAt S p ++ behind) fecf
+  callOf (damaged s f k vs e) = hears s f
+  callOf (elsewhere s f x e o) = hears s f
+  callOf (misfits s f x e o) = hears s f
+  callOf (opened k w o) = opens k w
+  callOf (closed k o) = closes k
+  callOf (again w) = opens K w
+
+  -- frames handed on at these places, each with the gap to the one before
+  unfoldable pub following : ℕ → List ℕ → List Handing
+  following q [] = []
+  following q (p ∷ ps) = (p - suc q, S .contents p) ∷ following p ps
+
+  unfoldable pub handings : List ℕ → List Handing
+  handings [] = []
+  handings (p ∷ ps) = (0, S .contents p) ∷ following p ps
+
+-- the places that arrive, in order
+unfoldable pub places : {K : Channel} {width : ℕ} → List (Event K width) → List ℕ
+places [] = []
+places (arrives p behind ∷ es) = p ∷ places es
+places (damaged s f k vs e ∷ es) = places es
+places (elsewhere s f x e o ∷ es) = places es
+places (misfits s f x e o ∷ es) = places es
+places (opened k w o ∷ es) = places es
+places (closed k o ∷ es) = places es
+places (again w ∷ es) = places es

@@ -1,0 +1,13 @@
+-- Document 01's cases hold, computed over the definitions that the promises cite.
+use mathlib.Core.Path.{refl}
+use Rattle.uslp_header.specs.Header.{countSetting, headerReading}
+use Rattle.uslp_field.specs.Field.{fieldReading}
+use Rattle.uslp_frame.specs.Frame.{frameWriting}
+use Rattle.uslp_reader.specs.Reader.{frameReading}
+use Rattle.uslp_record.specs.Slots.{find}
+use Rattle.uslp_record.specs.Hearing.{hearing}
+use Rattle.uslp_demands.specs.Cases.{AllAnswered}
+
+pub all-answered : AllAnswered
+unfolding frameReading headerReading fieldReading frameWriting countSetting hearing find
+all-answered = refl

@@ -1,0 +1,69 @@
+-- Demand 1 of the calls that write: a refusal leaves every octet of the lent buffer as it was.
+use mathlib.Core.Path.{_≡_, sym}
+use mathlib.Core.Bool.{Bool, true, cond}
+use mathlib.Core.List.{List, [], _∷_, _++_}
+use Prim.Native.Nat.{ℕ, _-_}
+use lib.Dec.{ltb}
+use lib.ListN.{length, take, drop}
+use contract.Lifetimes.{Lfts}
+use denote.Ref.{RefT, now}
+use Rattle.uslp_octets.specs.Octets.{pack}
+use Rattle.uslp_kinds.specs.Outcome.{Outcome, done, refused, firstOf}
+use Rattle.uslp_kinds.proofs.Outcomes.{refused-keeps}
+use Rattle.uslp_kinds.specs.declared.Refusal.{Refusal}
+use Rattle.uslp_kinds.specs.declared.LengthAnswer.the-variants.{Refused}
+use Rattle.uslp_header.specs.Header.{table, lenHeader, headerChecks, headerWriting}
+use Rattle.uslp_header.specs.declared.PrimaryHeader.{PrimaryHeader}
+use Rattle.uslp_header.proofs as header
+use Rattle.uslp_field.specs.Field.{fieldTable, lenField, fieldChecks, fieldWriting}
+use Rattle.uslp_field.specs.declared.TransferFrameDataFieldHeader.{TransferFrameDataFieldHeader}
+use Rattle.uslp_field.proofs as field
+use Rattle.uslp_layout.specs.Layout.{withFecf}
+use Rattle.uslp_frame.specs.Frame.{total, frameChecks, frameOctets, frameWriting}
+use Rattle.uslp_frame.specs.Reserved.{reservation, reservedOctets, reserving, finishLength}
+use Rattle.uslp_frame.specs.declared.TransferFrameCreator.{TransferFrameCreator}
+use Rattle.uslp_frame.specs.declared.TransferFrameCreatorWithReservedData.{TransferFrameCreatorWithReservedData}
+use Rattle.uslp_frame.specs.declared.ReservedAnswer.the-variants as reserved-answer
+use Rattle.uslp_frame.proofs as frame
+use Rattle.uslp_demands.specs.Promise.{Allows}
+
+-- the last check of a writing: room
+abbrev short : {A : Type 0} → List ℕ → ℕ → List (Bool × Outcome A)
+short s n = (ltb (length s) n, refused 2 (length s ∷ n ∷ [])) ∷ []
+
+module _ (r : Refusal) (s : RefT (List ℕ)) (left : List ℕ) where
+  pub header-kept : (κs : Lfts 1) (h : PrimaryHeader)
+      → Allows header.PrimaryHeader.write_to_slice.Kinds.ps header.PrimaryHeader.write_to_slice.Kinds.r header.PrimaryHeader.write_to_slice.Reads.Learnt κs (h, (s, tt)) (Refused r, (tt, (left, tt)))
+      → left ≡ now s
+  unfolding headerWriting
+  header-kept κs h e =
+      refused-keeps (firstOf (headerChecks h ++ short (now s) (lenHeader h)) (done (lenHeader h))) (pack (table 0 h) ++ drop (lenHeader h) (now s)) (now s) (sym e)
+
+  pub field-kept : (κs : Lfts 1) (f : TransferFrameDataFieldHeader)
+      → Allows field.TransferFrameDataFieldHeader.write_to_slice.Kinds.ps field.TransferFrameDataFieldHeader.write_to_slice.Kinds.r field.TransferFrameDataFieldHeader.write_to_slice.Reads.Learnt κs (f, (s, tt)) (Refused r, (tt, (left, tt)))
+      → left ≡ now s
+  unfolding fieldWriting
+  field-kept κs f e =
+      refused-keeps (firstOf (fieldChecks f ++ short (now s) (lenField f)) (done (lenField f))) (pack (fieldTable f) ++ drop (lenField f) (now s)) (now s) (sym e)
+
+  pub frame-kept : (κs : Lfts 2) (c : TransferFrameCreator) (d : RefT (List ℕ))
+      → Allows frame.TransferFrameCreator.write_to_slice.Kinds.ps frame.TransferFrameCreator.write_to_slice.Kinds.r frame.TransferFrameCreator.write_to_slice.Reads.Learnt κs (c, (d, (s, tt))) (Refused r, (tt, (tt, (left, tt))))
+      → left ≡ now s
+  unfolding frameWriting
+  frame-kept κs c d e =
+      refused-keeps (firstOf (frameChecks c (length (now d)) ++ short (now s) (total c (length (now d)))) (done (total c (length (now d)))))
+      (frameOctets c (now d) ++ drop (total c (length (now d))) (now s)) (now s) (sym e)
+
+  pub reserve-kept : (κs : Lfts 1) (c : TransferFrameCreator) (n : ℕ)
+      → Allows frame.TransferFrameCreatorWithReservedData.new.Kinds.ps frame.TransferFrameCreatorWithReservedData.new.Kinds.r frame.TransferFrameCreatorWithReservedData.new.Reads.Learnt κs (c, (n, (s, tt))) (reserved-answer.Refused r, (tt, (tt, (left, tt))))
+      → left ≡ now s
+  unfolding reserving
+  reserve-kept κs c n e =
+      refused-keeps (firstOf (frameChecks c n ++ short (now s) (total c n)) (done (reservation c n))) (reservedOctets c n (now s)) (now s) (sym e)
+
+  pub finish-kept : (κs : Lfts 1) (k : TransferFrameCreatorWithReservedData)
+      → Allows frame.TransferFrameCreatorWithReservedData.finish.Kinds.ps frame.TransferFrameCreatorWithReservedData.finish.Kinds.r frame.TransferFrameCreatorWithReservedData.finish.Reads.Learnt κs (k, (s, tt)) (Refused r, (tt, (left, tt)))
+      → left ≡ now s
+  finish-kept κs k e =
+      refused-keeps (finishLength k (length (now s)))
+      (cond (k .«has_fecf») (withFecf true (take (k .«len_written» - 2) (now s)) ++ drop (k .«len_written») (now s)) (now s)) (now s) (sym e)

@@ -1,0 +1,112 @@
+-- The promises of `uslp_frame` settle each call, and shut out two tempting wrong answers of each function. `data` and `data_mut` hand
+-- back a part of the lent octets: what it shows is settled.
+use mathlib.Core.Path.{_≡_, refl, sym, ap, _∙_}
+use mathlib.Core.Bool.{true, false}
+use mathlib.Core.List.{List, [], _∷_}
+use Prim.Native.Nat.{ℕ}
+use native.Mathlib.Omega.{arith}
+use denote.Ref.{RefT, now}
+use Rattle.uslp_kinds.specs.Answers.{paperLength}
+use Rattle.uslp_kinds.proofs.Back.{back, one-to-one, length-back, leaving-one}
+use Rattle.uslp_kinds.proofs.Outcomes.{done-one}
+use Rattle.uslp_kinds.specs.declared.Refusal.the-variants.{ShortTarget}
+use Rattle.uslp_kinds.specs.declared.LengthAnswer.the-variants as length-answer
+use Rattle.uslp_header.specs.Header.{headerChecking}
+use Rattle.uslp_checksum.specs.Checksum.{bit, step, feed, lows, bits, checksumOf}
+use Rattle.uslp_frame.specs.Frame.{frameLength, frameWriting}
+use Rattle.uslp_frame.specs.Reserved.{paperReserved, reserving, finishLength}
+use Rattle.uslp_frame.specs.declared.TransferFrameCreatorWithReservedData.{TransferFrameCreatorWithReservedData}
+use Rattle.uslp_frame.specs.declared.ReservedAnswer.the-variants as reserved-answer
+use Rattle.uslp_frame.proofs.Paths.{reserved-back}
+use Rattle.uslp_frame.proofs as frame
+use Rattle.uslp_demands.specs.Promise.{at, Allows, Settles, Shows}
+use Rattle.uslp_demands.specs.Samples.{frameF, plain, unflagged, zeros}
+use Rattle.uslp_demands.proofs.Alike.{alike}
+
+-- four numbers that no call made: an area behind the total, and sizes whose sum no machine number holds
+abbrev small : TransferFrameCreatorWithReservedData
+small = record { «data_index» = 3; «data_size» = 4; «len_written» = 6; «has_fecf» = false }
+
+abbrev huge : TransferFrameCreatorWithReservedData
+huge = record { «data_index» = 0xFFFFFFFFFFFFFFFF; «data_size» = 2; «len_written» = 6; «has_fecf» = false }
+
+abbrev sealing : TransferFrameCreatorWithReservedData
+sealing = record { «data_index» = 0; «data_size» = 1; «len_written» = 3; «has_fecf» = true }
+
+pub len-written-settles : Settles frame.TransferFrameCreator.len_written.Kinds.ps frame.TransferFrameCreator.len_written.Kinds.r frame.TransferFrameCreator.len_written.Reads.Pre frame.TransferFrameCreator.len_written.Reads.Learnt
+len-written-settles = record { total = λ κs a. tt; same = λ κs a x y s t. alike (one-to-one paperLength (back length-answer.Done length-answer.Refused) length-back (s ∙ sym t)) refl }
+
+-- one octet too many, its length wrapped
+pub len-written-wrapped : Allows frame.TransferFrameCreator.len_written.Kinds.ps frame.TransferFrameCreator.len_written.Kinds.r frame.TransferFrameCreator.len_written.Reads.Learnt tt (plain, (65529, tt)) (length-answer.Done 0, (tt, (tt, tt))) → ⊥
+unfolding frameLength
+len-written-wrapped e = let z : _≡_ {A = ℕ} 0 1 = cc in omega arith
+
+-- an OCF flag with no OCF
+pub len-written-lax : Allows frame.TransferFrameCreator.len_written.Kinds.ps frame.TransferFrameCreator.len_written.Kinds.r frame.TransferFrameCreator.len_written.Reads.Learnt tt (unflagged, (2, tt)) (length-answer.Done 15, (tt, (tt, tt))) → ⊥
+unfolding frameLength
+len-written-lax e = let z : _≡_ {A = ℕ} 0 1 = cc in omega arith
+
+pub write-to-slice-settles : Settles frame.TransferFrameCreator.write_to_slice.Kinds.ps frame.TransferFrameCreator.write_to_slice.Kinds.r frame.TransferFrameCreator.write_to_slice.Reads.Pre frame.TransferFrameCreator.write_to_slice.Reads.Learnt
+write-to-slice-settles = record { total = λ κs a. tt; same = λ κs a x y s t. let e = leaving-one (s ∙ sym t) in alike (one-to-one paperLength (back length-answer.Done length-answer.Refused) length-back (e .0)) (λ i. (tt, (tt, (e .1 i, tt)))) }
+
+-- writes nothing and says done
+pub write-to-slice-idle : Allows frame.TransferFrameCreator.write_to_slice.Kinds.ps frame.TransferFrameCreator.write_to_slice.Kinds.r frame.TransferFrameCreator.write_to_slice.Reads.Learnt ([], ([], tt)) (plain, (at (0x0A ∷ 0xF0 ∷ []), (at zeros, tt))) (length-answer.Done 10, (tt, (tt, (zeros, tt)))) → ⊥
+unfolding frameWriting
+write-to-slice-idle e = let z : _≡_ {A = ℕ} 0 0xC1 = cc in omega arith
+
+-- writes a frame whose OCF flag has no OCF
+pub write-to-slice-lax : Allows frame.TransferFrameCreator.write_to_slice.Kinds.ps frame.TransferFrameCreator.write_to_slice.Kinds.r frame.TransferFrameCreator.write_to_slice.Reads.Learnt ([], ([], tt)) (unflagged, (at [], (at [], tt))) (length-answer.Refused (ShortTarget 0 13), (tt, (tt, ([], tt)))) → ⊥
+unfolding frameWriting
+write-to-slice-lax e = let z : _≡_ {A = ℕ} 0 1 = cc in omega arith
+
+pub reserve-settles : Settles frame.TransferFrameCreatorWithReservedData.new.Kinds.ps frame.TransferFrameCreatorWithReservedData.new.Kinds.r frame.TransferFrameCreatorWithReservedData.new.Reads.Pre frame.TransferFrameCreatorWithReservedData.new.Reads.Learnt
+reserve-settles = record { total = λ κs a. tt; same = λ κs a x y s t. let e = leaving-one (s ∙ sym t) in alike (one-to-one paperReserved (back reserved-answer.Done reserved-answer.Refused) reserved-back (e .0)) (λ i. (tt, (tt, (e .1 i, tt)))) }
+
+-- clears the data area
+pub reserve-cleared : Allows frame.TransferFrameCreatorWithReservedData.new.Kinds.ps frame.TransferFrameCreatorWithReservedData.new.Kinds.r frame.TransferFrameCreatorWithReservedData.new.Reads.Learnt ([], tt) (plain, (2, (at (1 ∷ 1 ∷ 1 ∷ 1 ∷ 1 ∷ 1 ∷ 1 ∷ 1 ∷ 1 ∷ 1 ∷ []), tt))) (reserved-answer.Done (record { «data_index» = 8; «data_size» = 2; «len_written» = 10; «has_fecf» = false }), (tt, (tt, (0xC1 ∷ 0x23 ∷ 0x48 ∷ 0xA6 ∷ 0 ∷ 9 ∷ 0 ∷ 0xE4 ∷ 0 ∷ 0 ∷ [], tt)))) → ⊥
+unfolding reserving
+reserve-cleared e = let z : _≡_ {A = ℕ} 0 1 = cc in omega arith
+
+-- says that the data start behind the primary header
+pub reserve-start : Allows frame.TransferFrameCreatorWithReservedData.new.Kinds.ps frame.TransferFrameCreatorWithReservedData.new.Kinds.r frame.TransferFrameCreatorWithReservedData.new.Reads.Learnt ([], tt) (plain, (2, (at (1 ∷ 1 ∷ 1 ∷ 1 ∷ 1 ∷ 1 ∷ 1 ∷ 1 ∷ 1 ∷ 1 ∷ []), tt))) (reserved-answer.Done (record { «data_index» = 7; «data_size» = 2; «len_written» = 10; «has_fecf» = false }), (tt, (tt, (0xC1 ∷ 0x23 ∷ 0x48 ∷ 0xA6 ∷ 0 ∷ 9 ∷ 0 ∷ 0xE4 ∷ 1 ∷ 1 ∷ [], tt)))) → ⊥
+unfolding reserving
+reserve-start e = let z : _≡_ {A = ℕ} 7 8 = ap (λ (k : TransferFrameCreatorWithReservedData). k .«data_index») (done-one (leaving-one e .0)) in omega arith
+
+pub reserved-len-settles : Settles frame.TransferFrameCreatorWithReservedData.len_written.Kinds.ps frame.TransferFrameCreatorWithReservedData.len_written.Kinds.r frame.TransferFrameCreatorWithReservedData.len_written.Reads.Pre frame.TransferFrameCreatorWithReservedData.len_written.Reads.Learnt
+reserved-len-settles = record { total = λ κs a. tt; same = λ κs a x y s t. alike (s ∙ sym t) refl }
+
+-- start plus size
+pub reserved-len-sum : Allows frame.TransferFrameCreatorWithReservedData.len_written.Kinds.ps frame.TransferFrameCreatorWithReservedData.len_written.Kinds.r frame.TransferFrameCreatorWithReservedData.len_written.Reads.Learnt tt (small, tt) (7, (tt, tt)) → ⊥
+reserved-len-sum e = omega arith
+
+-- the data size
+pub reserved-len-size : Allows frame.TransferFrameCreatorWithReservedData.len_written.Kinds.ps frame.TransferFrameCreatorWithReservedData.len_written.Kinds.r frame.TransferFrameCreatorWithReservedData.len_written.Reads.Learnt tt (small, tt) (4, (tt, tt)) → ⊥
+reserved-len-size e = omega arith
+
+pub reserved-data-shows : Shows frame.TransferFrameCreatorWithReservedData.data.Kinds.ps frame.TransferFrameCreatorWithReservedData.data.Kinds.r frame.TransferFrameCreatorWithReservedData.data.Reads.Pre frame.TransferFrameCreatorWithReservedData.data.Reads.Learnt (λ κs a r. now r)
+reserved-data-shows = record { total = λ κs a. tt; same = λ κs a x y s t. s ∙ sym t }
+
+-- shows the area though finishing would refuse; shows nothing though it would not
+pub reserved-data-lax : (r : RefT (List ℕ)) → now r ≡ 4 ∷ 5 ∷ 6 ∷ 7 ∷ [] → Allows frame.TransferFrameCreatorWithReservedData.data.Kinds.ps frame.TransferFrameCreatorWithReservedData.data.Kinds.r frame.TransferFrameCreatorWithReservedData.data.Reads.Learnt ([], tt) (small, (at (1 ∷ 2 ∷ 3 ∷ 4 ∷ 5 ∷ 6 ∷ 7 ∷ []), tt)) (r, (tt, (tt, tt))) → ⊥
+unfolding finishLength
+reserved-data-lax r h e = let z : _≡_ {A = ℕ} 0 1 = cc in omega arith
+
+pub reserved-data-none : (r : RefT (List ℕ)) → now r ≡ [] → Allows frame.TransferFrameCreatorWithReservedData.data.Kinds.ps frame.TransferFrameCreatorWithReservedData.data.Kinds.r frame.TransferFrameCreatorWithReservedData.data.Reads.Learnt ([], tt) (sealing, (at (1 ∷ 2 ∷ 3 ∷ []), tt)) (r, (tt, (tt, tt))) → ⊥
+unfolding finishLength
+reserved-data-none r h e = let z : _≡_ {A = ℕ} 0 1 = cc in omega arith
+
+pub reserved-data-mut-shows : Shows frame.TransferFrameCreatorWithReservedData.data_mut.Kinds.ps frame.TransferFrameCreatorWithReservedData.data_mut.Kinds.r frame.TransferFrameCreatorWithReservedData.data_mut.Reads.Pre frame.TransferFrameCreatorWithReservedData.data_mut.Reads.Learnt (λ κs a r. now r)
+reserved-data-mut-shows = record { total = λ κs a. tt; same = λ κs a x y s t. s ∙ sym t }
+
+pub finish-settles : Settles frame.TransferFrameCreatorWithReservedData.finish.Kinds.ps frame.TransferFrameCreatorWithReservedData.finish.Kinds.r frame.TransferFrameCreatorWithReservedData.finish.Reads.Pre frame.TransferFrameCreatorWithReservedData.finish.Reads.Learnt
+finish-settles = record { total = λ κs a. tt; same = λ κs a x y s t. let e = leaving-one (s ∙ sym t) in alike (one-to-one paperLength (back length-answer.Done length-answer.Refused) length-back (e .0)) (λ i. (tt, (e .1 i, tt))) }
+
+-- start plus size wrapped
+pub finish-wrapped : Allows frame.TransferFrameCreatorWithReservedData.finish.Kinds.ps frame.TransferFrameCreatorWithReservedData.finish.Kinds.r frame.TransferFrameCreatorWithReservedData.finish.Reads.Learnt ([], tt) (huge, (at (1 ∷ 2 ∷ 3 ∷ 4 ∷ 5 ∷ 6 ∷ []), tt)) (length-answer.Done 6, (tt, (1 ∷ 2 ∷ 3 ∷ 4 ∷ 5 ∷ 6 ∷ [], tt))) → ⊥
+unfolding finishLength
+finish-wrapped e = let z : _≡_ {A = ℕ} 0 1 = cc in omega arith
+
+-- leaves the FECF out
+pub finish-unsealed : Allows frame.TransferFrameCreatorWithReservedData.finish.Kinds.ps frame.TransferFrameCreatorWithReservedData.finish.Kinds.r frame.TransferFrameCreatorWithReservedData.finish.Reads.Learnt ([], tt) (sealing, (at (0x31 ∷ 0 ∷ 0 ∷ []), tt)) (length-answer.Done 3, (tt, (0x31 ∷ 0 ∷ 0 ∷ [], tt))) → ⊥
+unfolding finishLength checksumOf feed bits lows bit step
+finish-unsealed e = let z : _≡_ {A = ℕ} 0 0xC7 = cc in omega arith

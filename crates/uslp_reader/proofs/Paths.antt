@@ -1,0 +1,69 @@
+-- What `frameReading` and `contentsIn` say, path by path.
+-- Assumes nothing.
+use mathlib.Core.Path.{_≡_, refl, ap, ap₂, sym, _∙_}
+use Prim.Native.Nat.{ℕ, _+_, _-_, _<_, _≤_}
+use mathlib.Core.Bool.{Bool, true, false, not, _&&_}
+use mathlib.Core.List.{List, [], _∷_}
+use borrow.Author.Tests.{le-ltb, lt-ltb, le-leb, lt-leb, eq-eqb, ne-eqb}
+use lib.ListN.{length, take, drop}
+use lib.Dec.{eqb}
+use Rattle.uslp_octets.specs.Octets.{word}
+use Rattle.uslp_checksum.specs.Checksum.{checksumOf}
+use Rattle.uslp_kinds.specs.Outcome.{done, refused}
+use Rattle.uslp_header.specs.Header.{lenHeader, lenFrame, headerReading}
+use Rattle.uslp_header.specs.declared.PrimaryHeader.{PrimaryHeader}
+use Rattle.uslp_field.specs.Field.{fieldReading}
+use Rattle.uslp_field.specs.declared.TransferFrameDataFieldHeader.{TransferFrameDataFieldHeader}
+use Rattle.uslp_layout.specs.Layout.{needed}
+use Rattle.uslp_reader.specs.Reader.{frameWith, bodyReading, frameReading, contentsIn}
+use Rattle.uslp_reader.specs.declared.TransferFrame.{TransferFrame}
+
+-- the test of the checksum: it refuses where it is asked for and not 0, and passes elsewhere
+wrong : (fecf : Bool) (n : ℕ) → fecf ≡ true → (n ≡ 0 → ⊥) → fecf && not (eqb n 0) ≡ true
+wrong fecf n t h = simp (t, ne-eqb _ _ h)
+
+right : (fecf : Bool) (n : ℕ) → (fecf ≡ true → n ≡ 0) → fecf && not (eqb n 0) ≡ false
+right true n h = simp (eq-eqb _ _ (h refl))
+right false n h = refl
+
+module _ (s : List ℕ) (fecf : Bool) where
+  pub reading-header : {k : ℕ} {vs : List ℕ} → headerReading s ≡ refused k vs → frameReading s fecf ≡ refused k vs
+  unfolding frameReading
+  reading-header e = rw e
+
+  module _ (h : PrimaryHeader) (header : headerReading s ≡ done h) where
+    pub reading-short : length s < lenFrame h → frameReading s fecf ≡ refused 1 (length s ∷ lenFrame h ∷ [])
+    unfolding frameReading
+    reading-short l = simp (header, lt-ltb _ _ l)
+
+    module _ (whole : lenFrame h ≤ length s) where
+      pub reading-field : {k : ℕ} {vs : List ℕ} → fieldReading (drop (lenHeader h) s) ≡ refused k vs → frameReading s fecf ≡ refused k vs
+      unfolding frameReading
+      reading-field e = simp (header, le-ltb _ _ whole, e)
+
+      module _ (f : TransferFrameDataFieldHeader) (field : fieldReading (drop (lenHeader h) s) ≡ done f) where
+        pub reading-body : frameReading s fecf ≡ bodyReading h f fecf s
+        unfolding frameReading
+        reading-body = simp (header, le-ltb _ _ whole, field)
+
+        pub reading-too-short : lenFrame h < needed h f fecf → frameReading s fecf ≡ refused 7 (lenFrame h ∷ needed h f fecf ∷ [])
+        reading-too-short l = reading-body ∙ simp (lt-ltb _ _ l)
+
+        module _ (room : needed h f fecf ≤ lenFrame h) where
+          pub reading-checksum : fecf ≡ true → (checksumOf (take (lenFrame h) s) ≡ 0 → ⊥) → frameReading s fecf ≡ refused 6 (word (lenFrame h - 2) 2 s ∷ [])
+          reading-checksum t n = reading-body ∙ simp (le-ltb _ _ room, wrong fecf _ t n)
+
+          module _ (passes : fecf ≡ true → checksumOf (take (lenFrame h) s) ≡ 0) where
+            pub reading-done : frameReading s fecf ≡ done (frameWith h f (lenFrame h - needed h f fecf) s)
+            reading-done = reading-body ∙ simp (le-ltb _ _ room, right fecf _ passes)
+
+            -- the same of a frame made with lengths that locals hold
+            pub reading-frame : {x : TransferFrame} {m n : ℕ} → m ≡ lenFrame h → n ≡ needed h f fecf → x ≡ frameWith h f (m - n) s → frameReading s fecf ≡ done x
+            reading-frame p q e = reading-done ∙ ap done (sym (e ∙ ap₂ (λ (a b : ℕ). frameWith h f (a - b) s) p q))
+
+module _ (x : TransferFrame) (s : List ℕ) where
+  pub contents-none : length s < x .«data_start» + x .«data_len» → contentsIn x s ≡ []
+  contents-none h = simp (lt-leb _ _ h)
+
+  pub contents-there : x .«data_start» + x .«data_len» ≤ length s → contentsIn x s ≡ take (x .«data_len») (drop (x .«data_start») s)
+  contents-there h = simp (le-leb _ _ h)

@@ -1,0 +1,32 @@
+-- Each way through closing is a law of `Calls`. Assumes nothing.
+use mathlib.Core.Path.{refl, _∙_, ap}
+use native.Mathlib.Omega.{arith}
+use Rattle.uslp_record.specs.Record.{paperDone}
+use Rattle.uslp_record.proofs.Calls.{joined, closing-none, closing-done}
+use borrow.Author.Needs.{needs}
+use Rattle.uslp_record.proofs.ChannelRecord.close_channel.Statement.{statement}
+use Rattle.uslp_record.proofs.ChannelRecord.close_channel.Tie as tie
+
+search-requires : tie.Need-search-requires
+search-requires c κs = search needs
+
+refused-requires : tie.Need-refused-requires
+refused-requires c κs = search needs
+
+returns : tie.Need-returns
+returns c =
+    let a = c .before .before .before .args in
+    let e = c .refused .ensures in
+    joined (ap paperDone (e .0)) (e .1) ∙ closing-none (a .self) (a .channel) _ (c .before .before .search .ensures) (omega arith)
+
+replaced-requires : tie.Need-replaced-requires
+replaced-requires c κs = search needs
+
+returns-2 : tie.Need-returns-2
+returns-2 c =
+    let a = c .before .before .before .args in
+    joined refl (c .replaced .ensures) ∙ closing-done (a .self) (a .channel) _ (c .before .before .search .ensures) (omega arith)
+
+pub close-channel-spec : {M : Type 1} → statement M
+close-channel-spec =
+    tie.close (tie.spec search-requires refused-requires returns replaced-requires returns-2)

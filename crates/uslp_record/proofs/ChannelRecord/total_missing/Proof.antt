@@ -1,0 +1,74 @@
+-- The invariant: the sum is that of the slots that were passed, none above the largest total. Assumes nothing.
+use borrow.Author.Needs.{needs}
+use Prim.Native.Nat.{_-_}
+use native.Mathlib.Omega.{arith}
+use Rattle.uslp_record.specs.Slots.{slotOf}
+use Rattle.uslp_record.specs.declared.SlotState.the-variants.{Closed}
+use Rattle.uslp_record.proofs.Seek.{long-of}
+use Rattle.uslp_record.proofs.Tally.{Tallied, tallied-none, tallied-all, tallied-add, tallied-stop}
+use Rattle.uslp_record.proofs.ChannelRecord.total_missing.Statement.{statement}
+use Rattle.uslp_record.proofs.ChannelRecord.total_missing.Tie as tie
+
+abbrev Inv-loop : tie.InvT-loop
+Inv-loop slots sum₀ i₀ sum i = Tallied slots i sum
+
+abbrev μ-loop : tie.MeasureT-loop
+μ-loop slots sum₀ i₀ sum i = 8 - i
+
+loop-holds : tie.Need-loop-holds Inv-loop μ-loop
+loop-holds c = tallied-none _
+
+mul-slot : tie.Need-mul-slot Inv-loop μ-loop
+mul-slot c = omega arith
+
+array-copy-out-slot : tie.Need-array-copy-out-slot Inv-loop μ-loop
+array-copy-out-slot c = omega arith
+
+missing-of-requires : tie.Need-missing-of-requires Inv-loop μ-loop
+missing-of-requires c κs = search needs
+
+returns : tie.Need-returns Inv-loop μ-loop
+returns c =
+    let l = c .before .before .before .before in
+    let s = l .before .before in
+    let long = long-of (s .args .self .slots) (s .good .0 .1 .1 .0 .1 .0 .1) in
+    tallied-stop (s .args .self) (l .loop .i) (l .loop .sum) long (l .loop .inv) (slotOf Closed) _ (omega arith) (c .before .missing-of .ensures) (omega arith)
+
+add-sum : tie.Need-add-sum Inv-loop μ-loop
+add-sum c = omega arith
+
+add-i : tie.Need-add-i Inv-loop μ-loop
+add-i c = omega arith
+
+loop-less : tie.Need-loop-less Inv-loop μ-loop
+loop-less c = omega arith
+
+loop-again : tie.Need-loop-again Inv-loop μ-loop
+loop-again c =
+    let l = c .before .before .before .before in
+    let s = l .before .before in
+    let long = long-of (s .args .self .slots) (s .good .0 .1 .1 .0 .1 .0 .1) in
+    tallied-add (s .args .self) (l .loop .i) (l .loop .sum) long (l .loop .inv) (slotOf Closed) _ (omega arith) (c .before .missing-of .ensures) (omega arith)
+
+returns-2 : tie.Need-returns-2 Inv-loop μ-loop
+returns-2 c =
+    let s = c .before .before .before in
+    let long = long-of (s .args .self .slots) (s .good .0 .1 .1 .0 .1 .0 .1) in
+    tallied-all (s .args .self) (c .before .loop .i) (c .before .loop .sum) long (c .before .loop .inv) (omega arith)
+
+pub total-missing-spec : {M : Type 1} → statement M
+total-missing-spec =
+    tie.close
+    (tie.spec
+    Inv-loop
+    μ-loop
+    loop-holds
+    mul-slot
+    array-copy-out-slot
+    missing-of-requires
+    returns
+    add-sum
+    add-i
+    loop-less
+    loop-again
+    returns-2)

@@ -1,0 +1,64 @@
+-- What each way through hearing a frame leaves is what the rule says. Assumes nothing.
+use mathlib.Core.Path.{_≡_, refl, sym, _∙_, ap}
+use mathlib.Core.Bool.{Bool, true, false}
+use mathlib.Core.List.{[], _∷_}
+use Prim.Native.Nat.{ℕ, _<_, _≤_}
+use borrow.Author.Tests.{lt-ltb, le-ltb, le-leb, lt-leb, eq-eqb, ne-eqb}
+use Rattle.uslp_kinds.specs.Outcome.{done, refused}
+use Rattle.uslp_record.proofs.Count.{full-after}
+use Rattle.uslp_record.specs.Slots.{find, stateAt, put}
+use Rattle.uslp_record.specs.Record.{keeping}
+use Rattle.uslp_record.specs.Hearing.{ahead, arrivalOf, totalsAfter, firstTotals, overfull, arrivalAt, totalsAt, widthAt, hearing}
+use Rattle.uslp_record.specs.declared.Channel.{Channel}
+use Rattle.uslp_record.specs.declared.Totals.{Totals}
+use Rattle.uslp_record.specs.declared.SlotState.{SlotState}
+use Rattle.uslp_record.specs.declared.SlotState.the-variants.{Heard}
+use Rattle.uslp_record.specs.declared.ChannelRecord.{ChannelRecord}
+use Rattle.uslp_record.specs.declared.Arrival.{Arrival}
+use Rattle.uslp_record.specs.declared.Arrival.the-variants.{New}
+use Rattle.uslp_record.specs.declared.counting.Step.{Step}
+
+-- a step to a frame that is `arrival`, with `after` for the totals after it
+abbrev pub Steps : Step → Arrival → Totals → Type 0
+Steps s arrival after = (s .full ≡ overfull after) × (s .arrival ≡ arrival) × (s .full ≡ false → s .totals ≡ after)
+
+pub later-full : (a : Arrival) (n : ℕ) (t : Totals) → overfull t ≡ true → Steps (record { full = true; arrival = a; totals = t }) a (totalsAfter a n t)
+later-full a n t e = (full-after a n t e, refl, λ f. cc)
+
+pub later-done : (a : Arrival) (after q : Totals) (b : Bool) → q ≡ after → b ≡ overfull q → Steps (record { full = b; arrival = a; totals = q }) a after
+later-done a after q b e is = (is ∙ ap overfull e, refl, λ f. e)
+
+-- a channel with no frame before this one
+pub steps-first : (s : Step) (t : SlotState) (n : ℕ) → arrivalAt t n ≡ New 0 → totalsAt t n ≡ firstTotals n →
+    (s .full ≡ false) × (s .arrival ≡ New 0) × (s .totals ≡ firstTotals n) → Steps s (arrivalAt t n) (totalsAt t n)
+steps-first s t n a q e = rw (a, q) (e .0, e .1, λ f. e .2)
+
+-- a channel heard before, whose frame is d ahead
+pub steps-later : (s : Step) (state : SlotState) (k : Channel) (w n d : ℕ) (a : Arrival) (t : Totals) → state ≡ Heard k w t → d ≡ ahead w n (t .last) → a ≡ arrivalOf w d →
+    Steps s a (totalsAfter a n t) → Steps s (arrivalAt state n) (totalsAt state n)
+steps-later s state k w n d a t is e f h = rw is (rw (← e, ← f) h)
+
+module _ (r : ChannelRecord) (k : Channel) (w n : ℕ) where
+  pub hearing-wide : 7 < w → keeping (refused 10 []) r ≡ hearing r k w n
+  unfolding hearing
+  hearing-wide h = simp (lt-ltb 7 w h)
+
+  module _ (narrow : w ≤ 7) (i : ℕ) (is : i ≡ find k (r .slots)) where
+    pub hearing-none : 8 ≤ i → keeping (refused 13 []) r ≡ hearing r k w n
+    unfolding hearing
+    hearing-none h = rw (← is) (simp (le-ltb 7 w narrow, le-leb 8 i h))
+
+    module _ (there : i < 8) (v : ℕ) (opened : v ≡ widthAt (stateAt r i)) where
+      pub hearing-width : (w ≡ v → ⊥) → keeping (refused 14 (w ∷ v ∷ [])) r ≡ hearing r k w n
+      unfolding hearing
+      hearing-width h = rw (← is, ← opened) (simp (le-ltb 7 w narrow, lt-leb 8 i there, ne-eqb w v h))
+
+      module _ (s : Step) (same : w ≡ v) (step : Steps s (arrivalAt (stateAt r i) n) (totalsAt (stateAt r i) n)) where
+        pub hearing-full : s .full ≡ true → keeping (refused 17 []) r ≡ hearing r k w n
+        unfolding hearing
+        hearing-full h = rw (← is, ← opened) (simp (le-ltb 7 w narrow, lt-leb 8 i there, eq-eqb w v same, sym (step .0) ∙ h))
+
+        pub hearing-done : s .full ≡ false → keeping (done (s .arrival)) (put r i (Heard k w (s .totals))) ≡ hearing r k w n
+        unfolding hearing
+        hearing-done h =
+            rw (← is, ← opened, step .1, step .2 h) (simp (le-ltb 7 w narrow, lt-leb 8 i there, eq-eqb w v same, sym (step .0) ∙ h))

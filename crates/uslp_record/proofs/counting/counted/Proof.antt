@@ -1,0 +1,54 @@
+-- The totals before are not too high, and the gap is short: no sum wraps. Assumes nothing.
+use mathlib.Core.Path.{sym, ap}
+use native.Mathlib.Omega.{arith}
+use Rattle.uslp_record.specs.Hearing.{totalsAfter}
+use Rattle.uslp_record.specs.declared.Arrival.{Arrival}
+use Rattle.uslp_record.proofs.Count.{full-not, gap-fits}
+use borrow.Author.Needs.{needs}
+use Rattle.uslp_record.proofs.counting.counted.Statement.{statement}
+use Rattle.uslp_record.proofs.counting.counted.Tie as tie
+
+enum-known-arrival : tie.Need-enum-known-arrival
+enum-known-arrival c = search needs
+
+add-next : tie.Need-add-next
+add-next c = omega (arith, full-not (c .before .before .before .before .args .totals) (c .before .before .before .before .pre .0))
+
+add-next-2 : tie.Need-add-next-2
+add-next-2 c = let s = c .before .before .before .before .before in omega (arith, gap-fits (s .args .arrival) (s .args .count) _ (s .args .totals) (c .before .before .before .arrival .given .1) (s .pre .0) (s .pre .1))
+
+enum-told : tie.Need-enum-told
+enum-told c = search needs
+
+add-next-3 : tie.Need-add-next-3
+add-next-3 c = omega (arith, full-not (c .before .before .before .args .totals) (c .before .before .before .pre .0))
+
+enum-told-2 : tie.Need-enum-told-2
+enum-told-2 c = search needs
+
+add-next-4 : tie.Need-add-next-4
+add-next-4 c = omega (arith, full-not (c .before .before .before .args .totals) (c .before .before .before .pre .0))
+
+returns : tie.Need-returns
+returns c = let a = c .before .before .before .before .before .args in sym (ap (λ (x : Arrival). totalsAfter x (a .count) (a .totals)) (c .before .before .before .arrival .given .1))
+
+returns-2 : tie.Need-returns-2
+returns-2 c = let a = c .before .before .before .args in sym (ap (λ (x : Arrival). totalsAfter x (a .count) (a .totals)) (c .before .enum-told .given .1))
+
+returns-3 : tie.Need-returns-3
+returns-3 c = let a = c .before .before .before .args in sym (ap (λ (x : Arrival). totalsAfter x (a .count) (a .totals)) (c .before .enum-told2 .given .1))
+
+pub counted-spec : {M : Type 1} → statement M
+counted-spec =
+    tie.close
+    (tie.spec
+    enum-known-arrival
+    add-next
+    add-next-2
+    enum-told
+    add-next-3
+    enum-told-2
+    add-next-4
+    returns
+    returns-2
+    returns-3)

@@ -1,0 +1,71 @@
+-- A first frame is NEW with no gap; a later one is counted. Assumes nothing.
+use mathlib.Core.Path.{ap}
+use native.Mathlib.Omega.{arith}
+use Rattle.uslp_record.specs.declared.SlotState.{SlotState}
+use Rattle.uslp_record.specs.Hearing.{arrivalAt, totalsAt, widthAt}
+use Rattle.uslp_record.proofs.Count.{arrives-near}
+use Rattle.uslp_record.proofs.Hears.{steps-first, steps-later}
+use borrow.Author.Needs.{needs}
+use Rattle.uslp_record.proofs.counting.step_of.Statement.{statement}
+use Rattle.uslp_record.proofs.counting.step_of.Tie as tie
+
+enum-told : tie.Need-enum-told
+enum-told c = search needs
+
+first-requires : tie.Need-first-requires
+first-requires c κs = search needs
+
+enum-told-2 : tie.Need-enum-told-2
+enum-told-2 c = search needs
+
+first-requires-2 : tie.Need-first-requires-2
+first-requires-2 c κs = search needs
+
+enum-known-state : tie.Need-enum-known-state
+enum-known-state c = search needs
+
+difference-requires : tie.Need-difference-requires
+difference-requires c κs = omega (arith, ap widthAt (c .before .state .given .1), c .before .before .before .pre)
+
+arrival-of-requires : tie.Need-arrival-of-requires
+arrival-of-requires c κs = omega (arith, ap widthAt (c .before .before .state .given .1), c .before .before .before .before .pre)
+
+later-requires : tie.Need-later-requires
+later-requires c κs =
+    let s = c .before .before .before .before .before in
+    let e = c .before .before .before .state .given in
+    arrives-near (e .0 .1 .0) (c .before .difference .result) (c .arrival-of .result) (s .args .count) (e .0 .1 .1 .0) (omega (arith, ap widthAt (e .1), s .pre)) (c .arrival-of .ensures)
+
+returns : tie.Need-returns
+returns c =
+    let a = c .before .before .before .args in
+    let e = c .before .enum-told .given .1 in
+    steps-first (c .first .result) (a .state) (a .count) (ap (λ (t : SlotState). arrivalAt t (a .count)) e) (ap (λ (t : SlotState). totalsAt t (a .count)) e) (c .first .ensures)
+
+returns-2 : tie.Need-returns-2
+returns-2 c =
+    let a = c .before .before .before .args in
+    let e = c .before .enum-told2 .given .1 in
+    steps-first (c .first2 .result) (a .state) (a .count) (ap (λ (t : SlotState). arrivalAt t (a .count)) e) (ap (λ (t : SlotState). totalsAt t (a .count)) e) (c .first2 .ensures)
+
+returns-3 : tie.Need-returns-3
+returns-3 c =
+    let a = c .before .before .before .before .before .before .args in
+    let e = c .before .before .before .before .state .given in
+    steps-later (c .later .result) (a .state) (e .0 .0) (e .0 .1 .0) (a .count) _ (c .before .arrival-of .result) (e .0 .1 .1 .0) (e .1) (c .before .before .difference .ensures) (c .before .arrival-of .ensures) (c .later .ensures)
+
+pub step-of-spec : {M : Type 1} → statement M
+step-of-spec =
+    tie.close
+    (tie.spec
+    enum-told
+    first-requires
+    enum-told-2
+    first-requires-2
+    enum-known-state
+    difference-requires
+    arrival-of-requires
+    later-requires
+    returns
+    returns-2
+    returns-3)

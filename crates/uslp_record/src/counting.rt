@@ -1,0 +1,214 @@
+// Hearing a frame of a channel, as numbers.
+use crate::Arrival;
+use crate::Channel;
+use crate::ChannelRecord;
+use crate::HearAnswer;
+use crate::Hearing;
+use crate::SlotState;
+use crate::Totals;
+use crate::replaced;
+use crate::search;
+use uslp_kinds::Refusal;
+ghost use mathlib.Core.Path.{_≡_};
+ghost use Prim.Native.Nat.{_+_, _≤_, _<_, _^_};
+ghost use mathlib.Core.Bool.{false};
+ghost use Rattle.uslp_record.specs.Record.{keeping};
+ghost use Rattle.uslp_record.specs.Hearing.{paperHeard, ahead, arrivalOf, totalsAfter, firstTotals, overfull, arrivalAt, totalsAt, widthAt, hearing};
+
+impl ChannelRecord {
+    // Refuses BAD_FIELD for a width that no frame has, NOT_OPEN, OTHER_WIDTH, TOTAL_FULL.
+    pub fn hear_count(self, channel: Channel, width: u8, count: u64) -> Hearing
+        ensures { λ r. ⌜ keeping (paperHeard (r .answer)) (r .next) ≡ hearing self channel width count ⌝ }
+    {
+        if width > 7 {
+            return unheard(Refusal::BadField, self);
+        }
+        let at = search(self, channel);
+        if at >= 8 {
+            return unheard(Refusal::NotOpen, self);
+        }
+        let slots = self.slots;
+        let slot = slots[at];
+        let state = slot.state;
+        let opened = width_of(state);
+        if width != opened {
+            let other = Refusal::OtherWidth {
+                frame: width,
+                opened,
+            };
+            return unheard(other, self);
+        }
+        let step = step_of(state, count);
+        if step.full {
+            return unheard(Refusal::TotalFull, self);
+        }
+        let arrival = step.arrival;
+        let totals = step.totals;
+        let heard = SlotState::Heard {
+            channel,
+            width,
+            totals,
+        };
+        Hearing {
+            answer: HearAnswer::Done(arrival),
+            next: replaced(self, at, heard),
+        }
+    }
+}
+
+// What a frame is to a channel, with the totals after it; where one of them is full, those are of no use.
+struct Step {
+    full: bool,
+    arrival: Arrival,
+    totals: Totals,
+}
+
+fn unheard(refusal: Refusal, channels: ChannelRecord) -> Hearing
+    ensures { λ r. ⌜ (r .answer ≡ HearAnswer.Refused refusal) × (r .next ≡ channels) ⌝ }
+{
+    Hearing {
+        answer: HearAnswer::Refused(refusal),
+        next: channels,
+    }
+}
+
+fn width_of(state: SlotState) -> u8
+    ensures { λ r. ⌜ r ≡ widthAt state ⌝ }
+{
+    match state {
+        SlotState::Closed => 0,
+        SlotState::Opened { channel: _, width } => width,
+        SlotState::Heard {
+            channel: _,
+            width,
+            totals: _,
+        } => width,
+    }
+}
+
+fn step_of(state: SlotState, count: u64) -> Step
+    requires { ⌜ widthAt state ≤ 7 ⌝ }
+    ensures { λ r. ⌜ (r .full ≡ overfull (totalsAt state count)) × (r .arrival ≡ arrivalAt state count) × (r .full ≡ false → r .totals ≡ totalsAt state count) ⌝ }
+{
+    match state {
+        SlotState::Closed => first(count),
+        SlotState::Opened {
+            channel: _,
+            width: _,
+        } => first(count),
+        SlotState::Heard {
+            channel: _,
+            width,
+            totals,
+        } => {
+            let d = difference(width, count, totals.last);
+            let arrival = arrival_of(width, d);
+            later(arrival, count, totals)
+        }
+    }
+}
+
+fn first(count: u64) -> Step
+    ensures { λ r. ⌜ (r .full ≡ false) × (r .arrival ≡ Arrival.New 0) × (r .totals ≡ firstTotals count) ⌝ }
+{
+    let totals = Totals {
+        last: count,
+        handed_on: 1,
+        missing: 0,
+        repeats: 0,
+        late: 0,
+    };
+    Step {
+        full: false,
+        arrival: Arrival::New(0),
+        totals,
+    }
+}
+
+// A frame of a channel that was heard before. Totals that stand too high are not added to, so that no sum wraps.
+fn later(arrival: Arrival, count: u64, totals: Totals) -> Step
+    requires { ⌜ totalsAfter arrival count totals .missing < totals .missing + 2 ^ 60 ⌝ }
+    ensures { λ r. ⌜ (r .full ≡ overfull (totalsAfter arrival count totals)) × (r .arrival ≡ arrival) × (r .full ≡ false → r .totals ≡ totalsAfter arrival count totals) ⌝ }
+{
+    if full(totals) {
+        return Step {
+            full: true,
+            arrival,
+            totals,
+        };
+    }
+    let next = counted(arrival, count, totals);
+    Step {
+        full: full(next),
+        arrival,
+        totals: next,
+    }
+}
+
+// New count less last by wrapping subtraction, reduced to the width.
+fn difference(width: u8, count: u64, last: u64) -> u64
+    requires { ⌜ width ≤ 7 ⌝ }
+    ensures { λ r. ⌜ r ≡ ahead width count last ⌝ }
+{
+    std::num::wrapping_sub_u64(count, last) % counts(width)
+}
+
+// How many counts a width has.
+fn counts(width: u8) -> u64
+    requires { ⌜ width ≤ 7 ⌝ }
+    ensures { λ r. ⌜ r ≡ 256 ^ width ⌝ }
+{
+    1 << (8 * width)
+}
+
+fn arrival_of(width: u8, d: u64) -> Arrival
+    requires { ⌜ width ≤ 7 ⌝ }
+    ensures { λ r. ⌜ r ≡ arrivalOf width d ⌝ }
+{
+    if d == 0 {
+        return Arrival::Repeat;
+    }
+    if d <= counts(width) / 2 {
+        return Arrival::New(d - 1);
+    }
+    Arrival::Late
+}
+
+fn full(totals: Totals) -> bool
+    ensures { λ r. ⌜ r ≡ overfull totals ⌝ }
+{
+    if totals.handed_on > 0x0FFF_FFFF_FFFF_FFFF {
+        return true;
+    }
+    if totals.missing > 0x0FFF_FFFF_FFFF_FFFF {
+        return true;
+    }
+    if totals.repeats > 0x0FFF_FFFF_FFFF_FFFF {
+        return true;
+    }
+    totals.late > 0x0FFF_FFFF_FFFF_FFFF
+}
+
+// The totals after an arrival: they grew from totals that were not full, so no sum wraps.
+fn counted(arrival: Arrival, count: u64, totals: Totals) -> Totals
+    requires { ⌜ (overfull totals ≡ false) × (totalsAfter arrival count totals .missing < totals .missing + 2 ^ 60) ⌝ }
+    ensures { λ r. ⌜ r ≡ totalsAfter arrival count totals ⌝ }
+{
+    let mut next = totals;
+    match arrival {
+        Arrival::New(gap) => {
+            next.last = count;
+            next.handed_on += 1;
+            next.missing += gap;
+            next
+        }
+        Arrival::Repeat => {
+            next.repeats += 1;
+            next
+        }
+        Arrival::Late => {
+            next.late += 1;
+            next
+        }
+    }
+}

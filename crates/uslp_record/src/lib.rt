@@ -1,0 +1,289 @@
+// The channel record on numbers: eight slots by value, and what each call makes of them.
+use uslp_kinds::Refusal;
+ghost use mathlib.Core.Path.{_≡_};
+ghost use Rattle.uslp_record.specs.Slots.{sameChannel, stateHolds, stateClosed, find, vacant, put, emptyRecord};
+ghost use Rattle.uslp_record.specs.Record.{keeping, paperDone, paperTotal, missingOf, opening, closing, consoleTotal, paperState, showing};
+
+mod counting;
+
+// A spacecraft id with a channel number.
+pub struct Channel {
+    pub spacecraft_id: u16,
+    pub vc_id: u8,
+}
+
+// What a heard channel has counted; last is the count of its furthest frame.
+pub struct Totals {
+    pub last: u64,
+    pub handed_on: u64,
+    pub missing: u64,
+    pub repeats: u64,
+    pub late: u64,
+}
+
+pub enum SlotState {
+    Closed,
+    Opened {
+        channel: Channel,
+        width: u8,
+    },
+    Heard {
+        channel: Channel,
+        width: u8,
+        totals: Totals,
+    },
+}
+
+pub struct Slot {
+    pub state: SlotState,
+}
+
+pub struct ChannelRecord {
+    pub slots: [Slot; 8],
+}
+
+pub enum RecordAnswer {
+    Done,
+    Refused(Refusal),
+}
+
+// An answer, and the record after the call.
+pub struct Recorded {
+    pub answer: RecordAnswer,
+    pub next: ChannelRecord,
+}
+
+pub enum TotalAnswer {
+    Done(u64),
+    Refused(Refusal),
+}
+
+// What a slot that holds a channel has.
+pub enum StateAnswer {
+    Done(SlotState),
+    Refused(Refusal),
+}
+
+// What hearing a frame finds: NEW with how many frames are missing before it, or nothing to hand on.
+pub enum Arrival {
+    New(u64),
+    Repeat,
+    Late,
+}
+
+pub enum HearAnswer {
+    Done(Arrival),
+    Refused(Refusal),
+}
+
+// An answer to a hearing, and the record after it.
+pub struct Hearing {
+    pub answer: HearAnswer,
+    pub next: ChannelRecord,
+}
+
+impl ChannelRecord {
+    // All slots closed.
+    pub fn new() -> ChannelRecord
+        ensures { λ r. ⌜ r ≡ emptyRecord ⌝ }
+    {
+        let slot = Slot {
+            state: SlotState::Closed,
+        };
+        ChannelRecord { slots: [slot; 8] }
+    }
+
+    // Takes the first closed slot. Refuses BAD_FIELD, ALREADY_OPEN, TABLE_FULL.
+    pub fn open_channel(self, channel: Channel, width: u8) -> Recorded
+        ensures { λ r. ⌜ keeping (paperDone (r .answer)) (r .next) ≡ opening self channel width ⌝ }
+    {
+        if channel.vc_id > 63 {
+            return refused(Refusal::BadField, self);
+        }
+        if width == 0 {
+            return refused(Refusal::BadField, self);
+        }
+        if width > 7 {
+            return refused(Refusal::BadField, self);
+        }
+        if search(self, channel) < 8 {
+            return refused(Refusal::AlreadyOpen, self);
+        }
+        let at = first_closed(self);
+        if at >= 8 {
+            return refused(Refusal::TableFull, self);
+        }
+        Recorded {
+            answer: RecordAnswer::Done,
+            next: replaced(self, at, SlotState::Opened { channel, width }),
+        }
+    }
+
+    // Refuses NOT_OPEN.
+    pub fn close_channel(self, channel: Channel) -> Recorded
+        ensures { λ r. ⌜ keeping (paperDone (r .answer)) (r .next) ≡ closing self channel ⌝ }
+    {
+        let at = search(self, channel);
+        if at >= 8 {
+            return refused(Refusal::NotOpen, self);
+        }
+        Recorded {
+            answer: RecordAnswer::Done,
+            next: replaced(self, at, SlotState::Closed),
+        }
+    }
+
+    // Width and totals of an open channel. Refuses NOT_OPEN.
+    pub fn channel_state(self, channel: Channel) -> StateAnswer
+        ensures { λ r. ⌜ paperState r ≡ showing self channel ⌝ }
+    {
+        let at = search(self, channel);
+        if at >= 8 {
+            return StateAnswer::Refused(Refusal::NotOpen);
+        }
+        let slots = self.slots;
+        let slot = slots[at];
+        let state = slot.state;
+        StateAnswer::Done(state)
+    }
+
+    // The sum of missing over open channels. Refuses TOTAL_FULL.
+    pub fn total_missing(self) -> TotalAnswer
+        ensures { λ r. ⌜ paperTotal r ≡ consoleTotal self ⌝ }
+    {
+        let slots = self.slots;
+        let mut sum: u64 = 0;
+        let mut i: usize = 0;
+        while i < 8 {
+            let slot = slots[i];
+            let state = slot.state;
+            let missing = missing_of(state);
+            if missing > 0x0FFF_FFFF_FFFF_FFFF {
+                return TotalAnswer::Refused(Refusal::TotalFull);
+            }
+            sum += missing;
+            i += 1;
+        }
+        TotalAnswer::Done(sum)
+    }
+}
+
+pub fn same_channel(a: Channel, b: Channel) -> bool
+    ensures { λ r. ⌜ r ≡ sameChannel a b ⌝ }
+{
+    if a.spacecraft_id != b.spacecraft_id {
+        return false;
+    }
+    a.vc_id == b.vc_id
+}
+
+// The first slot that holds the channel, or 8.
+pub fn search(channels: ChannelRecord, channel: Channel) -> usize
+    ensures { λ k. ⌜ k ≡ find channel (channels .slots) ⌝ }
+{
+    let slots = channels.slots;
+    let mut i: usize = 0;
+    let at = loop {
+        if i >= 8 {
+            break i;
+        }
+        let slot = slots[i];
+        let state = slot.state;
+        if state_holds(state, channel) {
+            break i;
+        }
+        i += 1;
+    };
+    at
+}
+
+// The first closed slot, or 8.
+fn first_closed(channels: ChannelRecord) -> usize
+    ensures { λ k. ⌜ k ≡ vacant (channels .slots) ⌝ }
+{
+    let slots = channels.slots;
+    let mut i: usize = 0;
+    let at = loop {
+        if i >= 8 {
+            break i;
+        }
+        let slot = slots[i];
+        let state = slot.state;
+        if state_closed(state) {
+            break i;
+        }
+        i += 1;
+    };
+    at
+}
+
+fn state_holds(state: SlotState, channel: Channel) -> bool
+    ensures { λ r. ⌜ r ≡ stateHolds channel state ⌝ }
+{
+    match state {
+        SlotState::Closed => false,
+        SlotState::Opened {
+            channel: own,
+            width: _,
+        } => same_channel(own, channel),
+        SlotState::Heard {
+            channel: own,
+            width: _,
+            totals: _,
+        } => same_channel(own, channel),
+    }
+}
+
+fn state_closed(state: SlotState) -> bool
+    ensures { λ r. ⌜ r ≡ stateClosed state ⌝ }
+{
+    match state {
+        SlotState::Closed => true,
+        SlotState::Opened {
+            channel: _,
+            width: _,
+        } => false,
+        SlotState::Heard {
+            channel: _,
+            width: _,
+            totals: _,
+        } => false,
+    }
+}
+
+// The record with another state in a slot.
+pub fn replaced(channels: ChannelRecord, at: usize, state: SlotState) -> ChannelRecord
+    ensures { λ r. ⌜ r ≡ put channels at state ⌝ }
+{
+    let mut next = channels;
+    if at < 8 {
+        next.slots[at] = Slot { state };
+    }
+    next
+}
+
+fn missing_of(state: SlotState) -> u64
+    ensures { λ r. ⌜ r ≡ missingOf state ⌝ }
+{
+    match state {
+        SlotState::Closed => 0,
+        SlotState::Opened {
+            channel: _,
+            width: _,
+        } => 0,
+        SlotState::Heard {
+            channel: _,
+            width: _,
+            totals,
+        } => totals.missing,
+    }
+}
+
+fn refused(refusal: Refusal, channels: ChannelRecord) -> Recorded
+    ensures { λ r. ⌜ (r .answer ≡ RecordAnswer.Refused refusal) × (r .next ≡ channels) ⌝ }
+{
+    Recorded {
+        answer: RecordAnswer::Refused(refusal),
+        next: channels,
+    }
+}

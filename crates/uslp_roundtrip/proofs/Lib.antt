@@ -1,0 +1,4 @@
+pub mod Complete
+pub mod Sound
+pub mod Exactly
+pub mod Trips

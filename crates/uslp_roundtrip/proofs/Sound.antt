@@ -1,0 +1,146 @@
+-- What is read stands in the octets as the layout of its fields.
+use mathlib.Core.Path.{_≡_, refl, ap, ap₂, sym, _∙_, subst}
+use mathlib.Core.Bool.{Bool, true, false, cond}
+use mathlib.Core.List.{List, [], _∷_, _++_, append-assoc, append-nil}
+use Prim.Native.Nat.{ℕ, _+_, _-_, _^_, _<_, _≤_}
+use native.Mathlib.Nat.{mod-lt}
+use native.Mathlib.Omega.{arith}
+use native.Mathlib.Decide.{decLt}
+use lib.ListN.{length, take, drop, getD, length-take, length-drop, length-append, List·getD-eq-default}
+use lib.Seq.{take-add, take-take, drop-drop, getD-take, getD-drop, length-take-le}
+use lib.Dec.{lit<}
+use Rattle.uslp_octets.specs.Octets.{AreOctets, octets, word, pack}
+use Rattle.uslp_octets.proofs.Laws.{octets-word, word-lt, word-take}
+use Rattle.uslp_checksum.specs.Checksum.{checksumOf}
+use Rattle.uslp_checksum.proofs.Laws.{residue}
+use Rattle.uslp_kinds.specs.Outcome.{done}
+use Rattle.uslp_kinds.specs.declared.OperationalControlField.{OperationalControlField}
+use Rattle.uslp_kinds.specs.declared.OperationalControlField.the-variants.{Absent, Present}
+use Rattle.uslp_header.specs.Header.{table, lenHeader, lenFrame, field, headerReading}
+use Rattle.uslp_header.specs.declared.PrimaryHeader.{PrimaryHeader}
+use Rattle.uslp_header.proofs.RoundTrip as header-trip
+use Rattle.uslp_field.specs.Field.{fieldTable, lenField, fieldReading}
+use Rattle.uslp_field.specs.declared.TransferFrameDataFieldHeader.{TransferFrameDataFieldHeader}
+use Rattle.uslp_field.proofs.RoundTrip as field-trip
+use Rattle.uslp_layout.specs.Layout.{dataStart, needed, present, ocfOctets, body, withFecf, layout, WellFormed}
+use Rattle.uslp_reader.specs.Reader.{ocfAt, frameWith, frameReading, contentsIn}
+use Rattle.uslp_reader.specs.declared.TransferFrame.{TransferFrame}
+use Rattle.uslp_reader.proofs.Done.{ReadDone, read-done}
+use Rattle.uslp_reader.proofs.Paths.{contents-there}
+use Rattle.uslp_roundtrip.specs.Laid.{frameOf, Laid}
+
+-- a part of octets is octets
+pub are-drop : (n : ℕ) (s : List ℕ) → AreOctets s → AreOctets (drop n s)
+are-drop n s oct i = subst (λ (x : ℕ). x < 256) (sym (getD-drop n s i 0)) (oct (n + i))
+
+pub are-take : (n : ℕ) (s : List ℕ) → AreOctets s → AreOctets (take n s)
+are-take n s oct i =
+    elim (decLt i n) [
+      | yes h ↦ subst (λ (x : ℕ). x < 256) (sym (getD-take n s i 0 h)) (oct i)
+      | no h ↦ subst (λ (x : ℕ). x < 256) (sym (List·getD-eq-default (take n s) 0 (omega (arith, length-take n s)))) (lit< tt)
+    ]
+
+present-ocf : (b : Bool) (i : ℕ) (s : List ℕ) → b ≡ present (ocfAt b i s)
+present-ocf true i s = refl
+present-ocf false i s = refl
+
+ocf-lt : (b : Bool) (i : ℕ) (s : List ℕ) → AreOctets s → (n : ℕ) → ocfAt b i s ≡ Present n → n < 2 ^ 32
+ocf-lt true i s oct n e = subst (λ (x : ℕ). x < 2 ^ 32) (let z : word i 4 s ≡ n = cc in z) (word-lt s i oct 4)
+ocf-lt false i s oct n e = let z : _≡_ {A = ℕ} 0 1 = cc in absurd (omega arith)
+
+ocf-part : (b : Bool) (i : ℕ) (s : List ℕ) → AreOctets s → i + cond b 4 0 ≤ length s → ocfOctets (ocfAt b i s) ≡ take (cond b 4 0) (drop i s)
+ocf-part true i s oct h = octets-word s i oct 4 h
+ocf-part false i s oct h = refl
+
+-- the stored FECF is the checksum of what stands before it
+fecf-part : (b : Bool) (n : ℕ) (s : List ℕ) → AreOctets s → n + cond b 2 0 ≤ length s → (b ≡ true → checksumOf (take (n + cond b 2 0) s) ≡ 0)
+    → withFecf b (take n s) ≡ take (n + cond b 2 0) s
+fecf-part false n s oct h c = let e : n ≡ n + 0 = omega arith in ap (λ (k : ℕ). take k s) e
+fecf-part true n s oct h c =
+    let long : length (take (n + 2) s) ≡ n + 2 = length-take-le (n + 2) s h in
+    let two : length (take (n + 2) s) - 2 ≡ n = omega arith in
+    let stored = residue (take (n + 2) s) (are-take (n + 2) s oct) (omega arith) .0 (c refl) in
+    let sum : checksumOf (take n s) ≡ word n 2 s =
+    sym (ap checksumOf (ap (λ (k : ℕ). take k (take (n + 2) s)) two ∙ take-take n (n + 2) s (omega arith)))
+    ∙ stored ∙ ap (λ (k : ℕ). word k 2 (take (n + 2) s)) two ∙ word-take n 2 (n + 2) s (omega arith) in
+    ap (λ (v : ℕ). take n s ++ octets 2 v) sum ∙ ap (λ (l : List ℕ). take n s ++ l) (octets-word s n oct 2 h) ∙ sym (take-add n 2 s)
+
+module _ (s : List ℕ) (fecf : Bool) (x : TransferFrame) (oct : AreOctets s) (e : frameReading s fecf ≡ done x) where
+  abbrev h : PrimaryHeader
+  h = x .«primary_header»
+
+  abbrev f : TransferFrameDataFieldHeader
+  f = x .«data_field_header»
+
+  r : ReadDone s fecf x
+  r = read-done s fecf x e
+
+  abbrev n : ℕ
+  n = lenFrame h - needed h f fecf
+
+  starts : x .«data_start» ≡ dataStart h f
+  starts = ap (λ (y : TransferFrame). y .«data_start») (r .frame)
+
+  is-long : x .«data_len» ≡ n
+  is-long = ap (λ (y : TransferFrame). y .«data_len») (r .frame)
+
+  ocf-is : x .«operational_control_field» ≡ ocfAt (h .«ocf_flag») (dataStart h f + n) s
+  ocf-is = ap (λ (y : TransferFrame). y .«operational_control_field») (r .frame)
+
+  contents : contentsIn x s ≡ take n (drop (dataStart h f) s)
+  contents =
+      contents-there x s (omega (arith, starts, is-long, r .room, r .whole))
+      ∙ ap₂ (λ (a b : ℕ). take a (drop b s)) is-long starts
+
+  long : length (contentsIn x s) ≡ n
+  long = ap length contents ∙ length-take-le n (drop (dataStart h f) s) (omega (arith, length-drop (dataStart h f) s, r .room, r .whole))
+
+  total : lenFrame h ≡ dataStart h f + n + cond (h .«ocf_flag») 4 0 + cond fecf 2 0
+  total = omega (arith, r .room)
+
+  -- the octets before the FECF
+  front : take (dataStart h f + n + cond (h .«ocf_flag») 4 0) s
+      ≡ body (field 50 2 s) h f (contentsIn x s) (x .«operational_control_field»)
+  front =
+      take-add (dataStart h f + n) (cond (h .«ocf_flag») 4 0) s
+      ∙ ap₂ (λ (a b : List ℕ). a ++ b)
+      (take-add (dataStart h f) n s
+      ∙ ap₂ (λ (a b : List ℕ). a ++ b)
+      (take-add (lenHeader h) (lenField f) s
+      ∙ ap₂ (λ (a b : List ℕ). a ++ b)
+      (header-trip.read-layout s h oct (r .header))
+      (field-trip.read-layout (drop (lenHeader h) s) f (are-drop (lenHeader h) s oct) (r .field)))
+      (sym contents))
+      (sym (ap ocfOctets ocf-is ∙ ocf-part (h .«ocf_flag») (dataStart h f + n) s oct (omega (arith, total, r .whole))))
+      ∙ simp append-assoc
+
+  pub stands : WellFormed fecf h f (contentsIn x s) (x .«operational_control_field»)
+  stands = record {
+    header-fits = header-trip.read-fitting s h oct (r .header);
+    field-fits = field-trip.read-fitting (drop (lenHeader h) s) f (are-drop (lenHeader h) s oct) (r .field);
+    contents-fit = subst AreOctets (sym contents) (are-take n (drop (dataStart h f) s) (are-drop (dataStart h f) s oct));
+    ocf-fits = λ k q. ocf-lt (h .«ocf_flag») (dataStart h f + n) s oct k (sym ocf-is ∙ q);
+    ocf-flagged = present-ocf (h .«ocf_flag») (dataStart h f + n) s ∙ ap present (sym ocf-is);
+    is-total = omega (arith, long, r .room);
+  }
+
+  pub begins : take (lenFrame h) s ≡ layout fecf (field 50 2 s) h f (contentsIn x s) (x .«operational_control_field»)
+  begins =
+      ap (λ (k : ℕ). take k s) total
+      ∙ sym
+      (fecf-part fecf (dataStart h f + n + cond (h .«ocf_flag») 4 0) s oct (omega (arith, total, r .whole))
+      (λ q. ap (λ (k : ℕ). checksumOf (take k s)) (sym total) ∙ r .check q))
+      ∙ ap (withFecf fecf) front
+
+  pub laid : Laid s fecf h f (contentsIn x s) (x .«operational_control_field»)
+  laid = record { spare = field 50 2 s; spare-fits = mod-lt _ (lit< tt); well-formed = stands; begins = begins }
+
+  pub is-frame : x ≡ frameOf h f (contentsIn x s) (x .«operational_control_field»)
+  is-frame =
+      λ i. record {
+        «primary_header» = h;
+        «data_field_header» = f;
+        «operational_control_field» = x .«operational_control_field»;
+        «data_start» = starts i;
+        «data_len» = (is-long ∙ sym long) i;
+      }

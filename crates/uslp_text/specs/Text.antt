@@ -1,0 +1,22 @@
+-- Decimal numerals as text: the first digit is the most significant, and none but 0 itself begins with a 0.
+use Prim.Native.Nat.{ℕ, zero, suc, _+_, _/_, _%_, _^_}
+use mathlib.Core.Bool.{cond}
+use mathlib.Core.List.{List, [], _∷_}
+use lib.Dec.{ltb}
+
+-- the k low decimal digits of a number, as characters: 48 is 0
+abbrev pub digits : ℕ → ℕ → List ℕ
+digits zero n = []
+digits (suc k) n = (48 + n / 10 ^ k % 10) ∷ digits k n
+
+-- how many digits a number has: one more than a tenth of it has; k bounds them, and 20 is enough for 64 bits
+unfoldable pub widthIn : ℕ → ℕ → ℕ
+widthIn zero n = 1
+widthIn (suc k) n = cond (ltb n 10) 1 (suc (widthIn k (n / 10)))
+
+abbrev pub width : ℕ → ℕ
+width n = widthIn 20 n
+
+-- the decimal numeral of a number
+abbrev pub decimal : ℕ → List ℕ
+decimal n = digits (width n) n
