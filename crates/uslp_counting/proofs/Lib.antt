@@ -10,3 +10,5 @@ pub mod Theorem
 pub mod Refusals
 pub mod Example
 pub mod Distinct
+pub mod Console
+pub mod Witness

@@ -7,5 +7,8 @@ pub mod OfField
 pub mod OfLayout
 pub mod OfFrame
 pub mod OfReader
+pub mod OfRecord
+pub mod OfChannel
 pub mod CasesHold
 pub mod Demand1
+pub mod Wrong

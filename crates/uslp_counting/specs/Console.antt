@@ -1,0 +1,27 @@
+-- The console total, counted channel by channel.
+use mathlib.Core.List.{List, [], _∷_, _++_}
+use Prim.Native.Nat.{ℕ, _+_}
+use Rattle.uslp_record.specs.declared.Channel.{Channel}
+use Rattle.uslp_record.specs.declared.SlotState.{SlotState}
+use Rattle.uslp_record.specs.declared.SlotState.the-variants.{Closed, Opened, Heard}
+use Rattle.uslp_record.specs.declared.Slot.{Slot}
+use Rattle.uslp_record.specs.declared.ChannelRecord.{ChannelRecord}
+use Rattle.uslp_counting.specs.History.{missingFor}
+
+-- the channels that are open, slot by slot
+abbrev pub channelIn : SlotState → List Channel
+channelIn Closed = []
+channelIn (Opened k width) = k ∷ []
+channelIn (Heard k width totals) = k ∷ []
+
+abbrev pub openIn : List Slot → List Channel
+openIn [] = []
+openIn (x ∷ l) = channelIn (x .state) ++ openIn l
+
+abbrev pub sumOver : (Channel → ℕ) → List Channel → ℕ
+sumOver f [] = 0
+sumOver f (k ∷ ks) = f k + sumOver f ks
+
+-- the sum over the open channels of what each is missing
+abbrev pub missingOverOpen : ChannelRecord → ℕ
+missingOverOpen r = sumOver (λ (k : Channel). missingFor k r) (openIn (r .slots))

@@ -1,0 +1,42 @@
+-- The promises of `uslp_channel` settle each call. `handed_on` hands back a part of the lent octets: what it shows is settled.
+use mathlib.Core.Path.{_≡_, refl, sym, ap, _∙_}
+use mathlib.Core.Bool.{false}
+use mathlib.Core.List.{List, [], _∷_}
+use Prim.Native.Nat.{ℕ}
+use native.Mathlib.Omega.{arith}
+use denote.Ref.{RefT, now}
+use Rattle.uslp_kinds.proofs.Back.{back, one-to-one}
+use Rattle.uslp_record.specs.declared.Channel.{Channel}
+use Rattle.uslp_record.proofs.Back.{keeping-one}
+use Rattle.uslp_channel.specs.Channel.{paperFrameHeard}
+use Rattle.uslp_channel.specs.declared.FrameArrival.the-variants.{New, Repeat, Late}
+use Rattle.uslp_channel.specs.declared.FrameHeard.the-variants.{Done, Refused}
+use Rattle.uslp_channel.proofs.Heard.{heard-back}
+use Rattle.uslp_channel.proofs as hearing
+use Rattle.uslp_demands.specs.Promise.{at, Allows, Settles, Shows}
+use Rattle.uslp_demands.specs.Samples.{octetsF, some, readF}
+use Rattle.uslp_demands.proofs.Alike.{alike}
+
+pub hear-settles : Settles hearing.hear.Kinds.ps hearing.hear.Kinds.r hearing.hear.Reads.Pre hearing.hear.Reads.Learnt
+hear-settles = record { total = λ κs a. tt; same = λ κs a x y s t. let e = keeping-one (s ∙ sym t) in alike (λ i. record { answer = one-to-one paperFrameHeard (back Done Refused) heard-back {x = x .0 .answer} {y = y .0 .answer} (e .0) i; next = e .1 i }) refl }
+
+pub handed-on-shows : Shows hearing.handed_on.Kinds.ps hearing.handed_on.Kinds.r hearing.handed_on.Reads.Pre hearing.handed_on.Reads.Learnt (λ κs a r. now r)
+handed-on-shows = record { total = λ κs a. tt; same = λ κs a x y s t. s ∙ sym t }
+
+-- hands on the data of a REPEAT; hands on nothing of a NEW frame
+pub handed-on-repeat : (r : RefT (List ℕ)) → now r ≡ 0x0A ∷ 0xF0 ∷ [] → Allows hearing.handed_on.Kinds.ps hearing.handed_on.Kinds.r hearing.handed_on.Reads.Learnt ([], tt) (Done Repeat, (at octetsF, tt)) (r, (tt, (tt, tt))) → ⊥
+handed-on-repeat r h e = let z : _≡_ {A = ℕ} 0 1 = cc in omega arith
+
+pub handed-on-none : (r : RefT (List ℕ)) → now r ≡ [] → Allows hearing.handed_on.Kinds.ps hearing.handed_on.Kinds.r hearing.handed_on.Reads.Learnt ([], tt) (Done (New 0 readF), (at octetsF, tt)) (r, (tt, (tt, tt))) → ⊥
+handed-on-none r h e = let z : _≡_ {A = ℕ} 0 1 = cc in omega arith
+
+pub channel-of-settles : Settles hearing.channel_of.Kinds.ps hearing.channel_of.Kinds.r hearing.channel_of.Reads.Pre hearing.channel_of.Reads.Learnt
+channel-of-settles = record { total = λ κs a. tt; same = λ κs a x y s t. alike (s ∙ sym t) refl }
+
+-- the map id for the channel number
+pub channel-of-map : Allows hearing.channel_of.Kinds.ps hearing.channel_of.Kinds.r hearing.channel_of.Reads.Learnt tt (some, tt) (record { «spacecraft_id» = 0x1234; «vc_id» = 3 }, (tt, tt)) → ⊥
+channel-of-map e = let z : _≡_ {A = ℕ} 3 5 = ap (λ (k : Channel). k .«vc_id») e in omega arith
+
+-- the channel number alone
+pub channel-of-number : Allows hearing.channel_of.Kinds.ps hearing.channel_of.Kinds.r hearing.channel_of.Reads.Learnt tt (some, tt) (record { «spacecraft_id» = 0; «vc_id» = 5 }, (tt, tt)) → ⊥
+channel-of-number e = let z : _≡_ {A = ℕ} 0 0x1234 = ap (λ (k : Channel). k .«spacecraft_id») e in omega arith
