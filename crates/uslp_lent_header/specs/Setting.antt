@@ -1,0 +1,20 @@
+-- Setting a lent header: of the outcome on the header by value, what is left behind the reference, and what is answered.
+use Rattle.uslp_kinds.specs.Outcome.{Outcome, done, refused}
+use Rattle.uslp_kinds.specs.Answers.{refusal}
+use Rattle.uslp_header.specs.declared.PrimaryHeader.{PrimaryHeader}
+use Rattle.uslp_lent_header.specs.declared.SetAnswer.{SetAnswer}
+use Rattle.uslp_lent_header.specs.declared.SetAnswer.the-variants as set-answer
+
+-- a refusal leaves the header h that was found
+abbrev pub headerLeft : PrimaryHeader → Outcome PrimaryHeader → PrimaryHeader
+headerLeft h (done g) = g
+headerLeft h (refused k vs) = h
+
+-- the outcome with the header taken off
+abbrev pub headerOff : Outcome PrimaryHeader → Outcome (Unit {0})
+headerOff (done g) = done tt
+headerOff (refused k vs) = refused k vs
+
+abbrev pub paperSet : SetAnswer → Outcome (Unit {0})
+paperSet set-answer.Done = done tt
+paperSet (set-answer.Refused r) = refusal r

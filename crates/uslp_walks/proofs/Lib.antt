@@ -1,0 +1,4 @@
+pub mod Param
+pub mod Lent
+pub mod Held
+pub mod Made
