@@ -12,3 +12,4 @@ pub mod OfChannel
 pub mod CasesHold
 pub mod Demand1
 pub mod Wrong
+pub mod OfListing

@@ -137,3 +137,13 @@ protocol-number-nine e = omega arith
 -- numbered in the order of the Rust's text
 pub protocol-number-order : Allows kinds.UslpProtocolId.number.Kinds.ps kinds.UslpProtocolId.number.Kinds.r kinds.UslpProtocolId.number.Reads.Learnt tt (UserDefinedOctetStream, tt) (5, (tt, tt)) → ⊥
 protocol-number-order e = omega arith
+
+pub refusal-number-settles : Settles kinds.Refusal.number.Kinds.ps kinds.Refusal.number.Kinds.r kinds.Refusal.number.Reads.Pre kinds.Refusal.number.Reads.Learnt
+refusal-number-settles = record { total = λ κs a. tt; same = λ κs a x y s t. alike (s ∙ sym t) refl }
+
+-- counted from 0; what the refusal carries
+pub refusal-number-zero : Allows kinds.Refusal.number.Kinds.ps kinds.Refusal.number.Kinds.r kinds.Refusal.number.Reads.Learnt tt (BadProtocol 9, tt) (4, (tt, tt)) → ⊥
+refusal-number-zero e = omega arith
+
+pub refusal-number-carried : Allows kinds.Refusal.number.Kinds.ps kinds.Refusal.number.Kinds.r kinds.Refusal.number.Reads.Learnt tt (BadProtocol 9, tt) (9, (tt, tt)) → ⊥
+refusal-number-carried e = omega arith
