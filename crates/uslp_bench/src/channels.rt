@@ -1,0 +1,203 @@
+// The commands on the channel record: open, close, hear, show, total.
+use crate::Answered;
+use crate::arguments::Rest;
+use crate::arguments::Trouble;
+use crate::arguments::ended;
+use crate::arguments::flag;
+use crate::arguments::is_trouble;
+use crate::arguments::last_octets;
+use crate::arguments::number;
+use crate::headers::octet_of;
+use crate::printing::put_data;
+use crate::printing::put_field;
+use crate::printing::put_fields;
+use crate::printing::put_refusal;
+use crate::printing::put_trouble;
+use uslp_channel::FrameArrival;
+use uslp_channel::FrameHeard;
+use uslp_record::Channel;
+use uslp_record::ChannelRecord;
+use uslp_record::RecordAnswer;
+use uslp_record::SlotState;
+use uslp_record::StateAnswer;
+use uslp_record::TotalAnswer;
+use uslp_record::Totals;
+use uslp_words::put_text;
+
+struct ChannelWords {
+    channel: Channel,
+    rest: Rest,
+}
+
+fn channel_words(line: &[u8], rest: Rest) -> ChannelWords {
+    let scid = number(line, rest, 65535, Trouble::Scid);
+    let after_scid = scid.rest;
+    let vc = number(line, after_scid, u64::MAX, Trouble::Vc);
+    let after_vc = vc.rest;
+    let channel = Channel {
+        spacecraft_id: scid.value as u16,
+        vc_id: octet_of(vc.value),
+    };
+    ChannelWords {
+        channel,
+        rest: after_vc,
+    }
+}
+
+pub fn open(line: &[u8], rest: Rest, channels: ChannelRecord, out: &mut [u8]) -> Answered {
+    let words = channel_words(line, rest);
+    let after_channel = words.rest;
+    let width = number(line, after_channel, u64::MAX, Trouble::Width);
+    let after_width = width.rest;
+    let end = ended(line, after_width);
+    let trouble = end.trouble;
+    if is_trouble(trouble) {
+        return Answered {
+            next: channels,
+            len: put_trouble(trouble, out),
+        };
+    }
+    let channel = words.channel;
+    let opened = channels.open_channel(channel, octet_of(width.value));
+    let answer = opened.answer;
+    let next = opened.next;
+    Answered {
+        next,
+        len: put_done(answer, out),
+    }
+}
+
+pub fn close(line: &[u8], rest: Rest, channels: ChannelRecord, out: &mut [u8]) -> Answered {
+    let words = channel_words(line, rest);
+    let after_channel = words.rest;
+    let end = ended(line, after_channel);
+    let trouble = end.trouble;
+    if is_trouble(trouble) {
+        return Answered {
+            next: channels,
+            len: put_trouble(trouble, out),
+        };
+    }
+    let channel = words.channel;
+    let closed = channels.close_channel(channel);
+    let answer = closed.answer;
+    let next = closed.next;
+    Answered {
+        next,
+        len: put_done(answer, out),
+    }
+}
+
+fn put_done(answer: RecordAnswer, out: &mut [u8]) -> usize {
+    match answer {
+        RecordAnswer::Done => put_text(b"0", out, 0),
+        RecordAnswer::Refused(refusal) => put_refusal(refusal, out),
+    }
+}
+
+pub fn hear(
+    line: &[u8],
+    rest: Rest,
+    channels: ChannelRecord,
+    octets: &mut [u8],
+    out: &mut [u8],
+) -> Answered {
+    let fecf = flag(line, rest, Trouble::Fecf);
+    let behind = fecf.rest;
+    let word = last_octets(line, behind, octets);
+    let n = word.count;
+    let end = word.rest;
+    let trouble = end.trouble;
+    if is_trouble(trouble) {
+        return Answered {
+            next: channels,
+            len: put_trouble(trouble, out),
+        };
+    }
+    let hearing = uslp_channel::hear(channels, &octets[0..n], fecf.value);
+    let answer = hearing.answer;
+    let next = hearing.next;
+    Answered {
+        next,
+        len: put_heard(answer, &octets[0..n], out),
+    }
+}
+
+fn put_heard(answer: FrameHeard, octets: &[u8], out: &mut [u8]) -> usize {
+    match answer {
+        FrameHeard::Done(arrival) => put_arrival(arrival, octets, out),
+        FrameHeard::Refused(refusal) => put_refusal(refusal, out),
+    }
+}
+
+fn put_arrival(arrival: FrameArrival, octets: &[u8], out: &mut [u8]) -> usize {
+    match arrival {
+        FrameArrival::New { gap, frame } => {
+            let a = put_text(b"0 NEW", out, 0);
+            let b = put_field(gap, out, a);
+            put_data(frame.data(octets), out, b)
+        }
+        FrameArrival::Repeat => put_text(b"0 REPEAT", out, 0),
+        FrameArrival::Late => put_text(b"0 LATE", out, 0),
+    }
+}
+
+pub fn show(line: &[u8], rest: Rest, channels: ChannelRecord, out: &mut [u8]) -> usize {
+    let words = channel_words(line, rest);
+    let after_channel = words.rest;
+    let end = ended(line, after_channel);
+    let trouble = end.trouble;
+    if is_trouble(trouble) {
+        return put_trouble(trouble, out);
+    }
+    let channel = words.channel;
+    match channels.channel_state(channel) {
+        StateAnswer::Done(state) => put_state(state, out),
+        StateAnswer::Refused(refusal) => put_refusal(refusal, out),
+    }
+}
+
+fn put_state(state: SlotState, out: &mut [u8]) -> usize {
+    match state {
+        // no answer has a closed slot
+        SlotState::Closed => put_text(b"0", out, 0),
+        SlotState::Opened { channel: _, width } => {
+            let a = put_text(b"0", out, 0);
+            let b = put_field(width as u64, out, a);
+            put_text(b" unheard", out, b)
+        }
+        SlotState::Heard {
+            channel: _,
+            width,
+            totals,
+        } => put_totals(width, totals, out),
+    }
+}
+
+fn put_totals(width: u8, totals: Totals, out: &mut [u8]) -> usize {
+    let a = put_text(b"0", out, 0);
+    let fields = [
+        width as u64,
+        totals.last,
+        totals.handed_on,
+        totals.missing,
+        totals.repeats,
+        totals.late,
+    ];
+    put_fields(&fields, out, a)
+}
+
+pub fn total(line: &[u8], rest: Rest, channels: ChannelRecord, out: &mut [u8]) -> usize {
+    let end = ended(line, rest);
+    let trouble = end.trouble;
+    if is_trouble(trouble) {
+        return put_trouble(trouble, out);
+    }
+    match channels.total_missing() {
+        TotalAnswer::Done(missing) => {
+            let at = put_text(b"0", out, 0);
+            put_field(missing, out, at)
+        }
+        TotalAnswer::Refused(refusal) => put_refusal(refusal, out),
+    }
+}

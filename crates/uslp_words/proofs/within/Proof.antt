@@ -1,0 +1,15 @@
+-- `uslp_words::within` meets its contract.
+use borrow.Author.Tests.{le-leb, lt-leb}
+use Rattle.uslp_words.proofs.within.Statement.{statement}
+use Rattle.uslp_words.proofs.within.Tie as tie
+use Rattle.uslp_words.proofs.within.Reads as reads
+use Rattle.uslp_words.proofs.within.Lts as lts
+
+returns : tie.Need-returns
+returns c = rw (lt-leb _ _ (c .if1 .taken))
+
+returns-2 : tie.Need-returns-2
+returns-2 c = rw (le-leb _ _ (c .if1 .left))
+
+pub within-spec : {M : Type 1} → statement M
+within-spec = tie.close (tie.spec returns returns-2)

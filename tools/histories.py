@@ -1,0 +1,207 @@
+#!/usr/bin/env python3
+"""Tries demand 3 from outside: random senders, a link that loses, repeats, reorders and damages frames of several channels within
+the window, and a count of its own, over the places sent, of what was never handed on. Every answer of the program is compared.
+
+Usage: histories.py PROGRAM [HISTORIES [FRAMES [SEED]]]     (PROGRAM is a built uslp_run; default 100 histories of 1000 frames)
+       histories.py --write DIR PROGRAM HISTORIES FRAMES SEED    writes the commands and the program's answers to DIR/stdin, DIR/stdout
+"""
+import random
+import subprocess
+import sys
+
+
+def checksum(octets):
+    register = 0xFFFF
+    for octet in octets:
+        register ^= octet << 8
+        for _ in range(8):
+            register = (register << 1) ^ 0x1021 if register & 0x8000 else register << 1
+            register &= 0xFFFF
+    return register
+
+
+class Sender:
+    """One channel: its frame at a place, and what the record is to say of it."""
+
+    def __init__(self, rng, taken):
+        while True:
+            self.key = (rng.choice([0, 7, 0x1234, 0xFFFF]), rng.randrange(64))
+            if self.key not in taken:
+                break
+        self.width = rng.choice([1, 1, 1, 2, 2, 3, 4, 5, 6, 7])
+        self.counts = 256 ** self.width
+        self.start = rng.choice([0, 1, self.counts - 1, rng.randrange(self.counts)])
+        self.fecf = rng.randrange(2)
+        self.header = (rng.randrange(2), rng.randrange(16), rng.randrange(2), rng.randrange(2), rng.randrange(4))
+        self.data = {}
+        self.handed = set()
+        self.first = self.furthest = None
+        self.repeats = self.late = 0
+
+    def frame(self, rng, place):
+        if place not in self.data:
+            rule = rng.randrange(8)
+            ocf = bytes(rng.randrange(256) for _ in range(4)) if rng.randrange(4) == 0 else b""
+            self.data[place] = (rule, rng.choice([0, 1, 2, 3, 4, 5, 6, 7, 8, 31]), ocf, bytes(rng.randrange(256) for _ in range(rng.randrange(12))))
+        rule, protocol, ocf, data = self.data[place]
+        craft, channel = self.key
+        dest, map_id, bypass, command, spare = self.header
+        total = 7 + self.width + (3 if rule < 3 else 1) + len(data) + len(ocf) + 2 * self.fecf
+        octets = bytearray([0xC0 | craft >> 12, craft >> 4 & 255, (craft & 15) << 4 | dest << 3 | channel >> 3, (channel & 7) << 5 | map_id << 1])
+        octets += (total - 1).to_bytes(2, "big")
+        octets.append(bypass << 7 | command << 6 | spare << 4 | (8 if ocf else 0) | self.width)
+        octets += ((self.start + place) % self.counts).to_bytes(self.width, "big")
+        octets.append(rule << 5 | protocol)
+        if rule < 3:
+            octets += (place & 0xFFFF).to_bytes(2, "big")
+        octets += data + ocf
+        if self.fecf:
+            octets += checksum(octets).to_bytes(2, "big")
+        return bytes(octets)
+
+    def next_place(self, rng):
+        """A place that the window allows: at most half ahead of the furthest, fewer than half behind it."""
+        if self.furthest is None:
+            return rng.randrange(1000, 2000)
+        half = self.counts // 2
+        kind = rng.randrange(10)
+        if kind < 5:
+            return self.furthest + 1
+        if kind < 7:
+            return self.furthest + rng.randint(1, min(half, rng.choice([3, 20, half])))
+        if kind < 8:
+            return self.furthest
+        return max(0, self.furthest - rng.randint(1, min(half - 1, rng.choice([2, 10, 127]))))
+
+    def arrives(self, place):
+        data = self.data[place][3].hex() or "-"
+        if self.furthest is None:
+            self.first = self.furthest = place
+            self.handed.add(place)
+            return "0 NEW 0 " + data
+        if place > self.furthest:
+            gap = place - self.furthest - 1
+            if self.missing() + gap >= 2**60:
+                return "17"
+            self.furthest = place
+            self.handed.add(place)
+            return f"0 NEW {gap} {data}"
+        if place == self.furthest:
+            self.repeats += 1
+            return "0 REPEAT"
+        self.late += 1
+        return "0 LATE"
+
+    def missing(self):
+        """Counted over the places sent: from the first handed on to the furthest, those never handed on."""
+        if self.first is None:
+            return 0
+        return (self.furthest - self.first + 1) - len(self.handed)
+
+    def shown(self):
+        if self.first is None:
+            return f"0 {self.width} unheard"
+        last = (self.start + self.furthest) % self.counts
+        return f"0 {self.width} {last} {len(self.handed)} {self.missing()} {self.repeats} {self.late}"
+
+
+def damaged(rng, sender, frame):
+    """Octets that the reader refuses: a burst within 16 bits where there is a FECF, else a cut or a spoiled first octet."""
+    octets = bytearray(frame)
+    if sender.fecf and len(octets) > 8 and rng.randrange(2):
+        at = rng.randrange(8 * 7, 8 * len(octets) - 16)
+        mask = rng.randrange(1, 1 << 16)
+        for bit in range(16):
+            if mask >> bit & 1:
+                octets[(at + bit) // 8] ^= 0x80 >> (at + bit) % 8
+    elif rng.randrange(2):
+        octets = octets[: rng.randrange(len(octets))]
+    else:
+        octets[0] ^= rng.choice([0x10, 0x20, 0x40, 0x80])
+    return bytes(octets)
+
+
+def history(rng, frames):
+    senders = {}
+    for _ in range(rng.randint(1, 6)):
+        sender = Sender(rng, senders)
+        senders[sender.key] = sender
+    opened, commands, answers = {}, [], []
+
+    def say(command, answer):
+        commands.append(command)
+        answers.append(answer)
+
+    def ask(sender):
+        say(f"show {sender.key[0]} {sender.key[1]}", sender.shown() if sender.key in opened else "13")
+        say("total", "0 %d" % sum(s.missing() for s in opened.values()))
+
+    studied = next(iter(senders.values()))
+    say(f"open {studied.key[0]} {studied.key[1]} {studied.width}", "0")
+    opened[studied.key] = studied
+    for _ in range(frames):
+        sender = studied if rng.randrange(3) else rng.choice(list(senders.values()))
+        if sender is not studied and rng.randrange(12) == 0:
+            if sender.key in opened:
+                say(f"close {sender.key[0]} {sender.key[1]}", "0")
+                del opened[sender.key]
+                sender.handed, sender.first, sender.furthest, sender.repeats, sender.late = set(), None, None, 0, 0
+            else:
+                say(f"open {sender.key[0]} {sender.key[1]} {sender.width}", "0")
+                opened[sender.key] = sender
+        place = sender.next_place(rng)
+        frame = sender.frame(rng, place)
+        if rng.randrange(8) == 0:
+            say(f"hear {sender.fecf} {damaged(rng, sender, frame).hex() or '-'}", None)
+        elif sender.key in opened:
+            behind = b"" if rng.randrange(4) else bytes(rng.randrange(256) for _ in range(rng.randrange(9)))
+            say(f"hear {sender.fecf} {(frame + behind).hex()}", sender.arrives(place))
+        else:
+            say(f"hear {sender.fecf} {frame.hex()}", "13")
+        ask(sender)
+    return commands, answers
+
+
+def ask_program(program, commands):
+    text = "".join(c + "\n" for c in commands)
+    return subprocess.run([program], input=text, stdout=subprocess.PIPE, text=True, check=True).stdout.splitlines()
+
+
+def compare(program, commands, answers):
+    """Each answer as expected; octets that were damaged are refused by the reader, with a number from 1 to 7."""
+    said = ask_program(program, commands)
+    if len(said) != len(commands):
+        return f"{len(commands)} commands, {len(said)} answers"
+    for command, expected, found in zip(commands, answers, said):
+        fits = found == expected if expected is not None else found.split()[0] in "1234567"
+        if not fits:
+            return f"{command}\n  expected {expected}\n  found    {found}"
+    return None
+
+
+def main():
+    words = sys.argv[1:]
+    out = None
+    if words and words[0] == "--write":
+        out, words = words[1], words[2:]
+    if not words:
+        sys.exit(__doc__)
+    program = words[0]
+    many, frames, seed = (int(w) for w in (words[1:] + ["100", "1000", "1"][len(words) - 1:]))
+    steps, all_commands = 0, []
+    for k in range(many):
+        commands, answers = history(random.Random(seed * 1000003 + k), frames)
+        wrong = compare(program, commands, answers)
+        if wrong:
+            sys.exit(f"history {k} of seed {seed}: {wrong}")
+        steps += len(commands)
+        all_commands += commands + [f"close {c.split()[1]} {c.split()[2]}" for c in commands if c.startswith("open")]
+    if out:
+        with open(out + "/stdin", "w") as f:
+            f.write("".join(c + "\n" for c in all_commands))
+        with open(out + "/stdout", "w") as f:
+            f.write("".join(a + "\n" for a in ask_program(program, all_commands)))
+    print(f"{many} histories of {frames} frames, {steps} answers, all equal")
+
+
+main()
