@@ -13,3 +13,4 @@ pub mod CasesHold
 pub mod Demand1
 pub mod Wrong
 pub mod OfListing
+pub mod OfWords

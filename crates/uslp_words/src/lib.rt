@@ -8,7 +8,7 @@ ghost use lib.Dec.{eqb, leb, ltb};
 ghost use Rattle.uslp_octets.specs.Octets.{overlaid};
 ghost use Rattle.uslp_words.specs.Words.{isDecimal, numberIn, isHexDigit, hexValue, isHex, octetsIn, octetsAnswer, octetsLeft, hexDigit, hexOf};
 
-mod line;
+pub mod line;
 mod text;
 
 pub use line::Word;
