@@ -1,30 +1,29 @@
 // The bench: one command on a line, one answer line.
-use arguments::Rest;
-use arguments::Trouble;
 use command::Command;
 use command::command_in;
-use printing::put_trouble;
+use frames::answer_fr;
+use frames::answer_frame;
+use frames::answer_hw;
+use frames::answer_octets;
+use uslp_answers::put_trouble;
+use uslp_arguments::Rest;
+use uslp_arguments::Trouble;
+use uslp_bench_channels::Answered;
+use uslp_bench_channels::close;
+use uslp_bench_channels::hear;
+use uslp_bench_channels::open;
+use uslp_bench_channels::show;
+use uslp_bench_channels::total;
 use uslp_record::ChannelRecord;
 use uslp_words::next_word;
 
-mod arguments;
-mod channels;
 mod command;
-mod headers;
-mod printing;
-mod reading;
-mod writing;
-
-// The record after a command, and the length of its answer in the text buffer.
-pub struct Answered {
-    pub next: ChannelRecord,
-    pub len: usize,
-}
+mod frames;
 
 // Octets of a command go into `octets`, a frame that is written into `buf`, the answer into `out`.
 pub fn answer(
     line: &[u8],
-    record_before: ChannelRecord,
+    channels: ChannelRecord,
     octets: &mut [u8],
     buf: &mut [u8],
     out: &mut [u8],
@@ -37,26 +36,26 @@ pub fn answer(
         trouble: Trouble::Nothing,
     };
     match command_in(&line[start..end]) {
-        Command::Open => channels::open(line, rest, record_before, out),
-        Command::Close => channels::close(line, rest, record_before, out),
-        Command::Hear => channels::hear(line, rest, record_before, octets, out),
+        Command::Open => open(line, rest, channels, out),
+        Command::Close => close(line, rest, channels, out),
+        Command::Hear => hear(line, rest, channels, octets, out),
         Command::Show => Answered {
-            next: record_before,
-            len: channels::show(line, rest, record_before, out),
+            next: channels,
+            len: show(line, rest, channels, out),
         },
         Command::Total => Answered {
-            next: record_before,
-            len: channels::total(line, rest, record_before, out),
+            next: channels,
+            len: total(line, rest, channels, out),
         },
         command => Answered {
-            next: record_before,
-            len: answer_frame(command, line, rest, octets, buf, out),
+            next: channels,
+            len: answer_other(command, line, rest, octets, buf, out),
         },
     }
 }
 
 // The commands that leave the record alone.
-fn answer_frame(
+fn answer_other(
     command: Command,
     line: &[u8],
     rest: Rest,
@@ -65,13 +64,11 @@ fn answer_frame(
     out: &mut [u8],
 ) -> usize {
     match command {
-        Command::Crc => reading::crc(line, rest, octets, out),
-        Command::Hr => reading::hr(line, rest, octets, out),
-        Command::Dr => reading::dr(line, rest, octets, out),
-        Command::Fr => reading::fr(line, rest, octets, out),
-        Command::Hw => writing::hw(line, rest, buf, out),
-        Command::Fw => writing::fw(line, rest, octets, buf, out),
-        Command::Rw => writing::rw(line, rest, octets, buf, out),
-        _ => put_trouble(Trouble::Command, out),
+        Command::Fr => answer_fr(line, rest, octets, out),
+        Command::Hw => answer_hw(line, rest, buf, out),
+        Command::Fw => answer_frame(false, line, rest, octets, buf, out),
+        Command::Rw => answer_frame(true, line, rest, octets, buf, out),
+        Command::Unknown => put_trouble(Trouble::Command, out),
+        _ => answer_octets(command, line, rest, octets, out),
     }
 }

@@ -5,8 +5,6 @@ use native.Mathlib.Omega.{arith}
 use lib.ListN.{length}
 use Rattle.uslp_lines.proofs.line_end.Statement.{statement}
 use Rattle.uslp_lines.proofs.line_end.Tie as tie
-use Rattle.uslp_lines.proofs.line_end.Reads as reads
-use Rattle.uslp_lines.proofs.line_end.Lts as lts
 
 abbrev Inv-loop : tie.InvT-loop
 Inv-loop block from i₀ i = (from ≤ i) × (i ≤ length block)

@@ -6,9 +6,6 @@ use native.Mathlib.Omega.{arith}
 use lib.ListN.{length}
 use Rattle.uslp_lines.proofs.take_lines.Statement.{statement}
 use Rattle.uslp_lines.proofs.take_lines.Tie as tie
-use Rattle.uslp_lines.proofs.take_lines.Reads as reads
-use Rattle.uslp_lines.proofs.take_lines.Lts as lts
-use Rattle.uslp_lines.proofs.take_part.Reads as take-part-reads
 
 abbrev Inv-loop : tie.InvT-loop
 Inv-loop block line₀ octets₀ buf₀ out₀ now₀ at₀ line octets buf out now at = (at ≤ length block) × (length line ≡ length line₀) × (length octets ≡ length octets₀) × (length buf ≡ length buf₀) × (length out ≡ length out₀)

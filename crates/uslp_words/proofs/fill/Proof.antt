@@ -8,8 +8,6 @@ use lib.ListN.{length, set, take, replicate, length-set}
 use Rattle.uslp_octets.proofs.Laws.{filled-none, filled-more, filled-all}
 use Rattle.uslp_words.proofs.fill.Statement.{statement}
 use Rattle.uslp_words.proofs.fill.Tie as tie
-use Rattle.uslp_words.proofs.fill.Reads as reads
-use Rattle.uslp_words.proofs.fill.Lts as lts
 
 abbrev Inv-loop : tie.InvT-loop
 Inv-loop octet to₀ i₀ to i = (i ≤ length to₀) × (length to ≡ length to₀) × (to ≡ take i to₀ ++ replicate (length to₀ - i) octet)

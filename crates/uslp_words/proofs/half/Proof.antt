@@ -3,9 +3,6 @@ use borrow.Author.Tests.{eq-eqb, ne-eqb}
 use borrow.Author.Needs.{needs}
 use Rattle.uslp_words.proofs.half.Statement.{statement}
 use Rattle.uslp_words.proofs.half.Tie as tie
-use Rattle.uslp_words.proofs.half.Reads as reads
-use Rattle.uslp_words.proofs.half.Lts as lts
-use Rattle.uslp_words.proofs.hex_digit.Reads as hex-digit-reads
 
 hex-digit-requires : tie.Need-hex-digit-requires
 hex-digit-requires c κs = search needs

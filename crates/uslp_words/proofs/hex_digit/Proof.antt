@@ -3,8 +3,6 @@ use borrow.Author.Tests.{lt-ltb, le-ltb}
 use borrow.Author.Needs.{needs}
 use Rattle.uslp_words.proofs.hex_digit.Statement.{statement}
 use Rattle.uslp_words.proofs.hex_digit.Tie as tie
-use Rattle.uslp_words.proofs.hex_digit.Reads as reads
-use Rattle.uslp_words.proofs.hex_digit.Lts as lts
 
 add-result : tie.Need-add-result
 add-result c = search needs

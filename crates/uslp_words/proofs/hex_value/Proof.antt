@@ -1,17 +1,10 @@
 -- `uslp_words::hex_value` meets its contract.
-use mathlib.Core.Path.{_≡_, refl, sym, _∙_}
-use Prim.Native.Nat.{ℕ}
-use mathlib.Core.Bool.{true, _&&_}
+use mathlib.Core.Path.{sym, _∙_}
 use native.Mathlib.Omega.{arith}
-use lib.Dec.{leb}
-use Rattle.uslp_words.specs.Words.{isDecimal, isLetter}
 use Rattle.uslp_words.proofs.Laws.{within-low, within-high}
 use borrow.Author.Needs.{needs}
 use Rattle.uslp_words.proofs.hex_value.Statement.{statement}
 use Rattle.uslp_words.proofs.hex_value.Tie as tie
-use Rattle.uslp_words.proofs.hex_value.Reads as reads
-use Rattle.uslp_words.proofs.hex_value.Lts as lts
-use Rattle.uslp_words.proofs.within.Reads as within-reads
 
 within-requires : tie.Need-within-requires
 within-requires c κs = search needs

@@ -14,9 +14,6 @@ use Rattle.uslp_words.specs.Words.{isHexDigit, allHex, isHex}
 use Rattle.uslp_words.proofs.Laws.{and-false, and-true}
 use Rattle.uslp_words.proofs.is_hex.Statement.{statement}
 use Rattle.uslp_words.proofs.is_hex.Tie as tie
-use Rattle.uslp_words.proofs.is_hex.Reads as reads
-use Rattle.uslp_words.proofs.is_hex.Lts as lts
-use Rattle.uslp_words.proofs.is_hex_digit.Reads as is-hex-digit-reads
 
 module _ (w : List ℕ) (i : ℕ) (e : allHex (drop i w) ≡ allHex w) where
   next : i < length w → isHexDigit (getD w i 0) ≡ true → allHex (drop (i + 1) w) ≡ allHex w

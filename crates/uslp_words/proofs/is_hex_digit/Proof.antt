@@ -3,9 +3,6 @@ use mathlib.Core.Path.{sym, _∙_}
 use borrow.Author.Needs.{needs}
 use Rattle.uslp_words.proofs.is_hex_digit.Statement.{statement}
 use Rattle.uslp_words.proofs.is_hex_digit.Tie as tie
-use Rattle.uslp_words.proofs.is_hex_digit.Reads as reads
-use Rattle.uslp_words.proofs.is_hex_digit.Lts as lts
-use Rattle.uslp_words.proofs.within.Reads as within-reads
 
 within-requires : tie.Need-within-requires
 within-requires c κs = search needs

@@ -1,12 +1,12 @@
 -- `uslp_words::number_in` meets its contract. The loop's invariant: what is left of the word, behind the value so far, makes what the word makes.
 -- Assumes nothing.
-use mathlib.Core.Path.{_≡_, refl, ap, sym, _∙_}
+use mathlib.Core.Path.{_≡_, ap, sym, _∙_}
 use Prim.Native.Nat.{ℕ, suc, _+_, _*_, _-_, _≤_, _<_}
 use mathlib.Core.Bool.{true, false, _&&_}
-use mathlib.Core.List.{List, []}
+use mathlib.Core.List.{List}
 use native.Mathlib.Omega.{arith}
 use native.Mathlib.Numerals.{add-one}
-use borrow.Author.Tests.{not-true, not-false, eq-eqb, ne-eqb, ltb-true}
+use borrow.Author.Tests.{not-true, not-false, ne-eqb, ltb-true}
 use lib.Dec.{ltb, lit<}
 use lib.ListN.{length, drop, getD, drop-of-length-le}
 use lib.Seq.{drop-cons}
@@ -15,9 +15,6 @@ use Rattle.uslp_words.specs.Words.{isDecimal, numberAfter, numberIn}
 use Rattle.uslp_words.proofs.Laws.{and-first, and-second, within-low, number-more, number-stops, number-ends}
 use Rattle.uslp_words.proofs.number_in.Statement.{statement}
 use Rattle.uslp_words.proofs.number_in.Tie as tie
-use Rattle.uslp_words.proofs.number_in.Reads as reads
-use Rattle.uslp_words.proofs.number_in.Lts as lts
-use Rattle.uslp_words.proofs.takes_digit.Reads as takes-digit-reads
 
 number-none : (w : List ℕ) → length w ≡ 0 → NotANumber ≡ numberIn w
 unfolding numberIn

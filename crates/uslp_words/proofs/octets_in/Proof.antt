@@ -1,16 +1,10 @@
 -- `uslp_words::octets_in` meets its contract.
-use mathlib.Core.Path.{_≡_, refl, sym, _∙_}
-use mathlib.Core.Bool.{true, false}
+use mathlib.Core.Path.{refl, sym, _∙_}
 use borrow.Author.Tests.{not-true, not-false, lt-ltb, le-ltb}
-use lib.ListN.{length}
-use Rattle.uslp_words.specs.Words.{isHex, octetsAnswer}
+use Rattle.uslp_words.specs.Words.{octetsAnswer}
 use borrow.Author.Needs.{needs}
 use Rattle.uslp_words.proofs.octets_in.Statement.{statement}
 use Rattle.uslp_words.proofs.octets_in.Tie as tie
-use Rattle.uslp_words.proofs.octets_in.Reads as reads
-use Rattle.uslp_words.proofs.octets_in.Lts as lts
-use Rattle.uslp_words.proofs.is_hex.Reads as is-hex-reads
-use Rattle.uslp_words.proofs.put_pairs.Reads as put-pairs-reads
 
 is-hex-requires : tie.Need-is-hex-requires
 is-hex-requires c κs = search needs

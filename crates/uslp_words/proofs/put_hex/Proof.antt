@@ -1,19 +1,16 @@
 -- `uslp_words::put_hex` meets its contract. The loop's invariant: the text passed is pasted over the front.
 -- Assumes nothing.
-use mathlib.Core.Path.{_≡_, refl, ap, ap₂, sym, _∙_}
-use Prim.Native.Nat.{ℕ, _+_, _*_, _-_, _/_, _%_, _≤_, _<_}
-use mathlib.Core.List.{List, _++_}
+use mathlib.Core.Path.{_≡_, refl, ap₂, sym, _∙_}
+use Prim.Native.Nat.{ℕ, _*_, _-_, _/_, _≤_, _<_}
+use mathlib.Core.List.{List}
 use native.Mathlib.Omega.{arith}
 use borrow.Author.Tests.{ltb-true, ltb-false}
-use lib.ListN.{length, drop, getD, set, length-set}
+use lib.ListN.{length, set, length-set}
 use lib.Seq.{paste, paste-zero}
 use Rattle.uslp_words.specs.Words.{hexOf}
 use Rattle.uslp_words.proofs.Laws.{length-hex, getD-hex, paste-turn, paste-source, paste-target}
 use Rattle.uslp_words.proofs.put_hex.Statement.{statement}
 use Rattle.uslp_words.proofs.put_hex.Tie as tie
-use Rattle.uslp_words.proofs.put_hex.Reads as reads
-use Rattle.uslp_words.proofs.put_hex.Lts as lts
-use Rattle.uslp_words.proofs.half.Reads as half-reads
 
 abbrev Inv-loop : tie.InvT-loop
 Inv-loop octets to₀ i₀ to i = (i ≤ 2 * length octets) × (i ≤ length to₀) × (length to ≡ length to₀) × (to ≡ paste to₀ 0 (hexOf octets) i)

@@ -1,18 +1,15 @@
 -- `uslp_words::put_pairs` meets its contract. The loop's invariant: the octets passed are pasted over the front.
 -- Assumes nothing.
 use mathlib.Core.Path.{_≡_, refl, ap, ap₂, sym, _∙_}
-use Prim.Native.Nat.{ℕ, _+_, _*_, _-_, _/_, _≤_, _<_}
+use Prim.Native.Nat.{ℕ, _+_, _*_, _-_, _/_, _≤_}
 use mathlib.Core.List.{List, _++_}
 use native.Mathlib.Omega.{arith}
-use lib.ListN.{length, drop, getD, set, length-set}
+use lib.ListN.{length, drop, set, length-set}
 use lib.Seq.{paste, paste-zero}
-use Rattle.uslp_words.specs.Words.{hexValue, octetsIn}
+use Rattle.uslp_words.specs.Words.{octetsIn}
 use Rattle.uslp_words.proofs.Laws.{length-pairs, getD-pairs, paste-turn, paste-all}
 use Rattle.uslp_words.proofs.put_pairs.Statement.{statement}
 use Rattle.uslp_words.proofs.put_pairs.Tie as tie
-use Rattle.uslp_words.proofs.put_pairs.Reads as reads
-use Rattle.uslp_words.proofs.put_pairs.Lts as lts
-use Rattle.uslp_words.proofs.hex_value.Reads as hex-value-reads
 
 abbrev Inv-loop : tie.InvT-loop
 Inv-loop word to₀ n i₀ to i = (i ≤ length word / 2) × (length to ≡ length to₀) × (to ≡ paste to₀ 0 (octetsIn word) i)

@@ -6,13 +6,10 @@ use native.Mathlib.Omega.{arith}
 use borrow.Author.Tests.{not-true, not-false, leb-true, leb-false, lt-ltb, le-ltb}
 use lib.Dec.{ltb, leb}
 use Rattle.uslp_words.specs.Words.{isDecimal}
-use Rattle.uslp_words.proofs.Laws.{within-low, within-high}
+use Rattle.uslp_words.proofs.Laws.{within-high}
 use borrow.Author.Needs.{needs}
 use Rattle.uslp_words.proofs.takes_digit.Statement.{statement}
 use Rattle.uslp_words.proofs.takes_digit.Tie as tie
-use Rattle.uslp_words.proofs.takes_digit.Reads as reads
-use Rattle.uslp_words.proofs.takes_digit.Lts as lts
-use Rattle.uslp_words.proofs.within.Reads as within-reads
 
 within-requires : tie.Need-within-requires
 within-requires c κs = search needs

@@ -2,8 +2,6 @@
 use borrow.Author.Tests.{le-leb, lt-leb}
 use Rattle.uslp_words.proofs.within.Statement.{statement}
 use Rattle.uslp_words.proofs.within.Tie as tie
-use Rattle.uslp_words.proofs.within.Reads as reads
-use Rattle.uslp_words.proofs.within.Lts as lts
 
 returns : tie.Need-returns
 returns c = rw (lt-leb _ _ (c .if1 .taken))

@@ -4,9 +4,6 @@ use mathlib.Core.Bool.{not}
 use borrow.Author.Needs.{needs}
 use Rattle.uslp_words.proofs.line.goes_on.Statement.{statement}
 use Rattle.uslp_words.proofs.line.goes_on.Tie as tie
-use Rattle.uslp_words.proofs.line.goes_on.Reads as reads
-use Rattle.uslp_words.proofs.line.goes_on.Lts as lts
-use Rattle.uslp_words.proofs.line.is_blank.Reads as is-blank-reads
 
 is-blank-requires : tie.Need-is-blank-requires
 is-blank-requires c κs = search needs

@@ -3,9 +3,6 @@ use borrow.Author.Tests.{eq-eqb, ne-eqb}
 use borrow.Author.Needs.{needs}
 use Rattle.uslp_words.proofs.line.is_blank.Statement.{statement}
 use Rattle.uslp_words.proofs.line.is_blank.Tie as tie
-use Rattle.uslp_words.proofs.line.is_blank.Reads as reads
-use Rattle.uslp_words.proofs.line.is_blank.Lts as lts
-use Rattle.uslp_words.proofs.within.Reads as within-reads
 
 returns : tie.Need-returns
 returns c = rw (eq-eqb _ _ (c .if1 .taken))

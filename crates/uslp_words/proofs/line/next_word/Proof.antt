@@ -1,5 +1,5 @@
 -- `uslp_words::line::next_word` meets its contract.
-use mathlib.Core.Path.{_≡_, ap, ap₂, _∙_}
+use mathlib.Core.Path.{ap, ap₂, _∙_}
 use Prim.Native.Nat.{ℕ}
 use mathlib.Core.Bool.{true, false}
 use native.Mathlib.Omega.{arith}
@@ -8,10 +8,6 @@ use Rattle.uslp_words.specs.Words.{passed}
 use borrow.Author.Needs.{needs}
 use Rattle.uslp_words.proofs.line.next_word.Statement.{statement}
 use Rattle.uslp_words.proofs.line.next_word.Tie as tie
-use Rattle.uslp_words.proofs.line.next_word.Reads as reads
-use Rattle.uslp_words.proofs.line.next_word.Lts as lts
-use Rattle.uslp_words.proofs.line.least.Reads as least-reads
-use Rattle.uslp_words.proofs.line.skip.Reads as skip-reads
 
 abbrev word : ℕ → ℕ → Word
 word a b = record { start = a; end = b }

@@ -1,6 +1,6 @@
 -- `uslp_words::line::skip` meets its contract. The loop's invariant: what goes on from place `i` goes on from the start.
 -- Assumes nothing.
-use mathlib.Core.Path.{_≡_, refl, ap, sym, _∙_}
+use mathlib.Core.Path.{_≡_, refl, sym, _∙_}
 use Prim.Native.Nat.{ℕ, suc, _+_, _-_, _≤_, _<_}
 use mathlib.Core.Bool.{Bool, true, false, not, cond}
 use mathlib.Core.List.{List}
@@ -12,9 +12,6 @@ use lib.Seq.{drop-cons}
 use Rattle.uslp_words.specs.Words.{isBlank, run, passed}
 use Rattle.uslp_words.proofs.line.skip.Statement.{statement}
 use Rattle.uslp_words.proofs.line.skip.Tie as tie
-use Rattle.uslp_words.proofs.line.skip.Reads as reads
-use Rattle.uslp_words.proofs.line.skip.Lts as lts
-use Rattle.uslp_words.proofs.line.goes_on.Reads as goes-on-reads
 
 module _ (line : List ℕ) (blanks : Bool) (i from : ℕ) (e : passed blanks line i ≡ passed blanks line from) where
   at : i < length line → run blanks (drop i line) ≡ cond (cond blanks (isBlank (getD line i 0)) (not (isBlank (getD line i 0)))) (suc (run blanks (drop (suc i) line))) 0

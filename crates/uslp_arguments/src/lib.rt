@@ -7,6 +7,17 @@ use uslp_words::octets_in;
 ghost use Prim.Native.Nat.{_≤_};
 ghost use lib.ListN.{length};
 
+mod headers;
+
+pub use headers::FlagWords;
+pub use headers::FrameWords;
+pub use headers::IdWords;
+pub use headers::flags;
+pub use headers::frame_words;
+pub use headers::header_of;
+pub use headers::ids;
+pub use headers::octet_of;
+
 // What does not fit its place.
 pub enum Trouble {
     Nothing,

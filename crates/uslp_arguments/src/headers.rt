@@ -1,11 +1,11 @@
 // The words of headers and frames, as the values that the library judges.
-use crate::arguments::Rest;
-use crate::arguments::Trouble;
-use crate::arguments::flag;
-use crate::arguments::last_octets;
-use crate::arguments::number;
-use crate::arguments::optional;
-use crate::arguments::troubled;
+use crate::Rest;
+use crate::Trouble;
+use crate::flag;
+use crate::last_octets;
+use crate::number;
+use crate::optional;
+use crate::troubled;
 use uslp_field::TransferFrameDataFieldHeader;
 use uslp_frame::TransferFrameCreator;
 use uslp_header::PrimaryHeader;

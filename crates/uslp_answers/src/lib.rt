@@ -1,5 +1,5 @@
 // What an answer line says: refusals, the fields of headers, and what did not fit.
-use crate::arguments::Trouble;
+use uslp_arguments::Trouble;
 use uslp_field::TransferFrameDataFieldHeader;
 use uslp_header::PrimaryHeader;
 use uslp_kinds::FhpOrLvo;

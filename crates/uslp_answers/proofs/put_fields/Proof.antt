@@ -1,14 +1,11 @@
--- `uslp_bench::printing::put_fields` is safe and ends. The measure is how many numbers are left.
+-- `uslp_answers::put_fields` is safe and ends. The measure is how many numbers are left.
 -- Assumes nothing.
-use mathlib.Core.Path.{_≡_, refl, _∙_}
+use mathlib.Core.Path.{_≡_, refl}
 use Prim.Native.Nat.{_≤_, _-_}
 use native.Mathlib.Omega.{arith}
 use lib.ListN.{length}
-use Rattle.uslp_bench.proofs.printing.put_fields.Statement.{statement}
-use Rattle.uslp_bench.proofs.printing.put_fields.Tie as tie
-use Rattle.uslp_bench.proofs.printing.put_fields.Reads as reads
-use Rattle.uslp_bench.proofs.printing.put_fields.Lts as lts
-use Rattle.uslp_bench.proofs.printing.put_field.Reads as put-field-reads
+use Rattle.uslp_answers.proofs.put_fields.Statement.{statement}
+use Rattle.uslp_answers.proofs.put_fields.Tie as tie
 
 abbrev Inv-loop : tie.InvT-loop
 Inv-loop values out₀ at place₀ i₀ out place i = (i ≤ length values) × (length out ≡ length out₀)

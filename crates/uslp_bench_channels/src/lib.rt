@@ -1,18 +1,17 @@
 // The commands on the channel record: open, close, hear, show, total.
-use crate::Answered;
-use crate::arguments::Rest;
-use crate::arguments::Trouble;
-use crate::arguments::ended;
-use crate::arguments::flag;
-use crate::arguments::is_trouble;
-use crate::arguments::last_octets;
-use crate::arguments::number;
-use crate::headers::octet_of;
-use crate::printing::put_data;
-use crate::printing::put_field;
-use crate::printing::put_fields;
-use crate::printing::put_refusal;
-use crate::printing::put_trouble;
+use uslp_answers::put_data;
+use uslp_answers::put_field;
+use uslp_answers::put_fields;
+use uslp_answers::put_refusal;
+use uslp_answers::put_trouble;
+use uslp_arguments::Rest;
+use uslp_arguments::Trouble;
+use uslp_arguments::ended;
+use uslp_arguments::flag;
+use uslp_arguments::is_trouble;
+use uslp_arguments::last_octets;
+use uslp_arguments::number;
+use uslp_arguments::octet_of;
 use uslp_channel::FrameArrival;
 use uslp_channel::FrameHeard;
 use uslp_record::Channel;
@@ -23,6 +22,12 @@ use uslp_record::StateAnswer;
 use uslp_record::TotalAnswer;
 use uslp_record::Totals;
 use uslp_words::put_text;
+
+// The record after a command, and the length of its answer in the text buffer.
+pub struct Answered {
+    pub next: ChannelRecord,
+    pub len: usize,
+}
 
 struct ChannelWords {
     channel: Channel,
@@ -114,12 +119,16 @@ pub fn hear(
             len: put_trouble(trouble, out),
         };
     }
-    let hearing = uslp_channel::hear(channels, &octets[0..n], fecf.value);
+    hear_frame(&octets[0..n], fecf.value, channels, out)
+}
+
+fn hear_frame(octets: &[u8], has_fecf: bool, channels: ChannelRecord, out: &mut [u8]) -> Answered {
+    let hearing = uslp_channel::hear(channels, octets, has_fecf);
     let answer = hearing.answer;
     let next = hearing.next;
     Answered {
         next,
-        len: put_heard(answer, &octets[0..n], out),
+        len: put_heard(answer, octets, out),
     }
 }
 

@@ -1,0 +1,11 @@
+// The commands on octets and frames, whose words have been read.
+pub use reading::crc;
+pub use reading::dr;
+pub use reading::fr;
+pub use reading::hr;
+pub use writing::fw;
+pub use writing::hw;
+pub use writing::rw;
+
+mod reading;
+mod writing;

@@ -1,0 +1,54 @@
+// The commands that write into a buffer, which holds 0xEE everywhere before: hw, fw, rw.
+use uslp_answers::put_written;
+use uslp_frame::ReservedAnswer;
+use uslp_frame::TransferFrameCreator;
+use uslp_frame::TransferFrameCreatorWithReservedData;
+use uslp_header::HeaderAnswer;
+use uslp_header::PrimaryHeader;
+use uslp_kinds::LengthAnswer;
+use uslp_octets::copy_octets;
+use uslp_words::fill;
+
+pub fn hw(header: PrimaryHeader, total: usize, buf: &mut [u8], out: &mut [u8]) -> usize {
+    fill(0xEE, buf);
+    let answer = write_header(header, total, buf);
+    put_written(answer, buf, out)
+}
+
+// A header that cannot be written is told before a length that is too long.
+fn write_header(header: PrimaryHeader, total: usize, buf: &mut [u8]) -> LengthAnswer {
+    match header.checked() {
+        HeaderAnswer::Refused(refusal) => LengthAnswer::Refused(refusal),
+        HeaderAnswer::Done(checked) => write_with_len(checked, total, buf),
+    }
+}
+
+fn write_with_len(header: PrimaryHeader, total: usize, buf: &mut [u8]) -> LengthAnswer {
+    match header.with_frame_len(total) {
+        HeaderAnswer::Refused(refusal) => LengthAnswer::Refused(refusal),
+        HeaderAnswer::Done(whole) => whole.write_to_slice(buf),
+    }
+}
+
+pub fn fw(frame: TransferFrameCreator, data: &[u8], buf: &mut [u8], out: &mut [u8]) -> usize {
+    fill(0xEE, buf);
+    let answer = frame.write_to_slice(data, buf);
+    put_written(answer, buf, out)
+}
+
+pub fn rw(frame: TransferFrameCreator, data: &[u8], buf: &mut [u8], out: &mut [u8]) -> usize {
+    fill(0xEE, buf);
+    let answer = write_reserved(frame, data, buf);
+    put_written(answer, buf, out)
+}
+
+// Reserves, puts the data into the area, finishes.
+fn write_reserved(frame: TransferFrameCreator, data: &[u8], buf: &mut [u8]) -> LengthAnswer {
+    match TransferFrameCreatorWithReservedData::new(frame, data.len(), buf) {
+        ReservedAnswer::Refused(refusal) => LengthAnswer::Refused(refusal),
+        ReservedAnswer::Done(reserved) => {
+            copy_octets(data, reserved.data_mut(buf));
+            reserved.finish(buf)
+        }
+    }
+}
