@@ -4,8 +4,8 @@
 Usage: compare.py ORACLE PROGRAM [COMMANDS [SEED]]     ORACLE is the built driver of the Rust, PROGRAM a built uslp_run; default 16,000
        compare.py --write DIR ORACLE PROGRAM COMMANDS SEED    writes the commands that have equal answers, and the Rust's answers to them,
                                                               to DIR/stdin and DIR/stdout
-Counts the answers by command and number, and the differences by kind with the shortest command of each. A difference that document 01 does
-not list, judged from the command's own words, makes the exit status 1.
+Counts the answers by command and number, and the differences by kind with the shortest command of each. A difference that docs/DIFFERENCES.md
+does not list, judged from the command's own words, makes the exit status 1.
 """
 import collections
 import random
@@ -224,7 +224,7 @@ def frame_total(words):
 
 
 def kind(line, theirs, ours):
-    """None where the answers agree, else what kind of difference it is, and whether document 01 lists it."""
+    """None where the answers agree, else what kind of difference it is, and whether docs/DIFFERENCES.md lists it."""
     if theirs == ours:
         return None
     words = line.split()
