@@ -1,5 +1,5 @@
 -- Hearing a frame: what it answers, what it hands on, and the record that it leaves, in the order of document 01.
-use Prim.Native.Nat.{ℕ}
+use Prim.Native.Nat.{ℕ, _<_}
 use mathlib.Core.Bool.{Bool}
 use mathlib.Core.List.{List, []}
 use Rattle.uslp_kinds.specs.Outcome.{Outcome, done, refused}
@@ -7,6 +7,7 @@ use Rattle.uslp_kinds.specs.Answers.{refusal}
 use Rattle.uslp_header.specs.declared.PrimaryHeader.{PrimaryHeader}
 use Rattle.uslp_reader.specs.Reader.{frameReading, contentsIn}
 use Rattle.uslp_reader.specs.declared.TransferFrame.{TransferFrame}
+use Rattle.uslp_record.specs.Slots.{put}
 use Rattle.uslp_record.specs.Record.{Kept, keeping}
 use Rattle.uslp_record.specs.Hearing.{hearing}
 use Rattle.uslp_record.specs.declared.Channel.{Channel}
@@ -17,6 +18,8 @@ use Rattle.uslp_channel.specs.declared.FrameArrival.{FrameArrival}
 use Rattle.uslp_channel.specs.declared.FrameArrival.the-variants.{New, Repeat, Late}
 use Rattle.uslp_channel.specs.declared.FrameHeard.{FrameHeard}
 use Rattle.uslp_channel.specs.declared.FrameHeard.the-variants as heard-answer
+use Rattle.uslp_channel.specs.declared.FrameVerdict.{FrameVerdict}
+use Rattle.uslp_channel.specs.declared.FrameVerdict.the-variants as verdict
 
 abbrev pub paperFrameHeard : FrameHeard → Outcome FrameArrival
 paperFrameHeard (heard-answer.Done a) = done a
@@ -49,6 +52,15 @@ afterReading r (refused k vs) = keeping (refused k vs) r
 -- hearing octets: any reader's refusal is the answer
 abbrev pub frameHearing : ChannelRecord → List ℕ → Bool → Kept FrameArrival
 frameHearing r s fecf = afterReading r (frameReading s fecf)
+
+-- what a verdict leaves of a record: another state in one slot of the eight, or nothing changed
+abbrev pub frameJudgedIn : ChannelRecord → FrameVerdict → Kept FrameArrival
+frameJudgedIn r (verdict.Done arrival at state) = keeping (done arrival) (put r at state)
+frameJudgedIn r (verdict.Refused x) = keeping (refusal x) r
+
+abbrev pub InSlots : FrameVerdict → Type 0
+InSlots (verdict.Done arrival at state) = at < 8
+InSlots (verdict.Refused x) = Unit {0}
 
 -- what an answer hands on of the octets
 abbrev pub handedOn : Outcome FrameArrival → List ℕ → List ℕ

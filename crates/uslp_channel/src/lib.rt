@@ -6,11 +6,13 @@ use uslp_reader::TransferFrame;
 use uslp_record::Arrival;
 use uslp_record::Channel;
 use uslp_record::ChannelRecord;
-use uslp_record::HearAnswer;
+use uslp_record::SlotState;
+use uslp_record::Verdict;
+use uslp_record::replaced;
 ghost use mathlib.Core.Path.{_≡_};
 ghost use Rattle.uslp_record.specs.Record.{keeping};
 ghost use Rattle.uslp_reader.specs.Reader.{paperFrame};
-ghost use Rattle.uslp_channel.specs.Channel.{channelOf, paperFrameHeard, frameArrival, heardIn, frameHearing, handedOn};
+ghost use Rattle.uslp_channel.specs.Channel.{channelOf, paperFrameHeard, frameArrival, heardIn, frameHearing, frameJudgedIn, InSlots, handedOn};
 
 // What hearing a frame finds: NEW, with the frame and how many are missing before it, or nothing to hand on.
 pub enum FrameArrival {
@@ -30,16 +32,39 @@ pub struct FrameHearing {
     pub next: ChannelRecord,
 }
 
+// What a hearing changes: the state of one slot, or nothing.
+pub enum FrameVerdict {
+    Done {
+        arrival: FrameArrival,
+        at: usize,
+        state: SlotState,
+    },
+    Refused(Refusal),
+}
+
 // Refuses what reading refuses, then NOT_OPEN, OTHER_WIDTH, TOTAL_FULL.
 pub fn hear(channels: ChannelRecord, buf: &[u8], has_fecf: bool) -> FrameHearing
     ensures { λ r. ⌜ keeping (paperFrameHeard (r .answer)) (r .next) ≡ frameHearing channels (now (buf .entry)) «has_fecf» ⌝ }
 {
-    match TransferFrame::from_bytes(buf, has_fecf) {
-        FrameAnswer::Done(frame) => count_frame(channels, frame),
-        FrameAnswer::Refused(refusal) => FrameHearing {
+    match judge(channels, buf, has_fecf) {
+        FrameVerdict::Done { arrival, at, state } => FrameHearing {
+            answer: FrameHeard::Done(arrival),
+            next: replaced(channels, at, state),
+        },
+        FrameVerdict::Refused(refusal) => FrameHearing {
             answer: FrameHeard::Refused(refusal),
             next: channels,
         },
+    }
+}
+
+// The same, but the record is only read: whoever holds it takes the new state over, in place.
+pub fn judge(channels: ChannelRecord, buf: &[u8], has_fecf: bool) -> FrameVerdict
+    ensures { λ r. ⌜ (frameJudgedIn channels r ≡ frameHearing channels (now (buf .entry)) «has_fecf») × InSlots r ⌝ }
+{
+    match TransferFrame::from_bytes(buf, has_fecf) {
+        FrameAnswer::Done(frame) => judge_frame(channels, frame),
+        FrameAnswer::Refused(refusal) => FrameVerdict::Refused(refusal),
     }
 }
 
@@ -67,26 +92,22 @@ pub fn channel_of(header: PrimaryHeader) -> Channel
     }
 }
 
-fn count_frame(channels: ChannelRecord, frame: TransferFrame) -> FrameHearing
-    ensures { λ r. ⌜ keeping (paperFrameHeard (r .answer)) (r .next) ≡ heardIn channels frame ⌝ }
+fn judge_frame(channels: ChannelRecord, frame: TransferFrame) -> FrameVerdict
+    ensures { λ r. ⌜ (frameJudgedIn channels r ≡ heardIn channels frame) × InSlots r ⌝ }
 {
     let header = frame.primary_header;
-    let hearing = channels.hear_count(
+    let counted = channels.judge_count(
         channel_of(header),
         header.vc_frame_count_len,
         header.vc_frame_count,
     );
-    let counted = hearing.answer;
-    let next = hearing.next;
     match counted {
-        HearAnswer::Done(arrival) => FrameHearing {
-            answer: FrameHeard::Done(frame_arrival(arrival, frame)),
-            next,
+        Verdict::Done { arrival, at, state } => FrameVerdict::Done {
+            arrival: frame_arrival(arrival, frame),
+            at,
+            state,
         },
-        HearAnswer::Refused(refusal) => FrameHearing {
-            answer: FrameHeard::Refused(refusal),
-            next,
-        },
+        Verdict::Refused(refusal) => FrameVerdict::Refused(refusal),
     }
 }
 

@@ -20,7 +20,8 @@ use Rattle.uslp_record.specs.declared.TotalAnswer.the-variants as total-answer
 use Rattle.uslp_record.specs.declared.StateAnswer.the-variants as state-answer
 use Rattle.uslp_record.specs.declared.Arrival.the-variants.{New, Repeat, Late}
 use Rattle.uslp_record.specs.declared.HearAnswer.the-variants as hear-answer
-use Rattle.uslp_record.proofs.Back.{record-back, total-back, state-back, heard-back, keeping-one}
+use Rattle.uslp_record.specs.declared.Verdict.the-variants as verdict
+use Rattle.uslp_record.proofs.Back.{record-back, total-back, state-back, heard-back, keeping-one, verdict-one}
 use Rattle.uslp_record.proofs as channels
 use Rattle.uslp_demands.specs.Promise.{Allows, Settles}
 use Rattle.uslp_demands.specs.Cases.{channel, lastHeard}
@@ -136,6 +137,14 @@ replaced-idle e = let d : Closed ≡ Opened channel 1 = ap (λ (r : ChannelRecor
 
 pub hear-count-settles : Settles channels.ChannelRecord.hear_count.Kinds.ps channels.ChannelRecord.hear_count.Kinds.r channels.ChannelRecord.hear_count.Reads.Pre channels.ChannelRecord.hear_count.Reads.Learnt
 hear-count-settles = record { total = λ κs a. tt; same = λ κs a x y s t. let e = keeping-one (s ∙ sym t) in alike (λ i. record { answer = one-to-one paperHeard (back hear-answer.Done hear-answer.Refused) heard-back {x = x .0 .answer} {y = y .0 .answer} (e .0) i; next = e .1 i }) refl }
+
+pub judge-count-settles : Settles channels.ChannelRecord.judge_count.Kinds.ps channels.ChannelRecord.judge_count.Kinds.r channels.ChannelRecord.judge_count.Reads.Pre channels.ChannelRecord.judge_count.Reads.Learnt
+judge-count-settles = record { total = λ κs a. tt; same = λ κs a x y s t. alike (verdict-one (a .0) (a .1 .0) (a .1 .1 .0) (a .1 .1 .1 .0) (x .0) (y .0) (s .0 ∙ sym (t .0)) (s .1) (t .1)) refl }
+
+-- changes a slot that does not hold the channel
+pub judge-count-elsewhere : (t : SlotState) → Allows channels.ChannelRecord.judge_count.Kinds.ps channels.ChannelRecord.judge_count.Kinds.r channels.ChannelRecord.judge_count.Reads.Learnt tt (opened, (channel, (1, (7, tt)))) (verdict.Done (New 0) 3 t, (tt, (tt, (tt, (tt, tt))))) → ⊥
+unfolding find
+judge-count-elsewhere t e = let z : _≡_ {A = ℕ} 3 0 = e .1 .0 in omega arith
 
 -- half of M ahead taken as LATE; a REPEAT counted as handed on
 pub hear-count-half : (next : ChannelRecord) → Allows channels.ChannelRecord.hear_count.Kinds.ps channels.ChannelRecord.hear_count.Kinds.r channels.ChannelRecord.hear_count.Reads.Learnt tt (lastHeard 1 0, (channel, (1, (128, tt)))) (record { answer = hear-answer.Done Late; next = next }, (tt, (tt, (tt, (tt, tt))))) → ⊥

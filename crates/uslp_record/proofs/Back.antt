@@ -1,10 +1,23 @@
 -- An answer of a call on the record has a way back from paper, and what a call leaves is one answer with one record.
 -- Assumes nothing.
-use mathlib.Core.Path.{_≡_, refl, ap}
-use Rattle.uslp_kinds.specs.Outcome.{Outcome}
-use Rattle.uslp_kinds.proofs.Back.{back, refusal-back}
+use mathlib.Core.Path.{_≡_, refl, ap, sym, _∙_}
+use Prim.Native.Nat.{ℕ}
+use mathlib.Core.List.{List}
+use native.Mathlib.Omega.{arith}
+use Rattle.uslp_kinds.specs.Outcome.{Outcome, done, refused}
+use Rattle.uslp_kinds.specs.declared.Refusal.{Refusal}
+use Rattle.uslp_kinds.specs.declared.Refusal.the-variants.{Truncated}
+use Rattle.uslp_kinds.proofs.Outcomes.{done-one}
+use Rattle.uslp_kinds.proofs.Back.{back, refusalOf, refusal-back}
+use Rattle.uslp_record.specs.Slots.{stateAt}
 use Rattle.uslp_record.specs.Record.{keeping, paperDone, paperTotal, paperState}
-use Rattle.uslp_record.specs.Hearing.{paperHeard}
+use Rattle.uslp_record.specs.Hearing.{paperHeard, totalsAt, judgedIn, SlotJudged}
+use Rattle.uslp_record.specs.declared.Channel.{Channel}
+use Rattle.uslp_record.specs.declared.SlotState.{SlotState}
+use Rattle.uslp_record.specs.declared.SlotState.the-variants.{Heard}
+use Rattle.uslp_record.specs.declared.Arrival.{Arrival}
+use Rattle.uslp_record.specs.declared.Verdict.{Verdict}
+use Rattle.uslp_record.specs.declared.Verdict.the-variants as verdict
 use Rattle.uslp_record.specs.declared.ChannelRecord.{ChannelRecord}
 use Rattle.uslp_record.specs.declared.RecordAnswer.{RecordAnswer}
 use Rattle.uslp_record.specs.declared.RecordAnswer.the-variants as record-answer
@@ -33,3 +46,21 @@ heard-back (hear-answer.Refused r) = ap hear-answer.Refused (refusal-back r)
 
 pub keeping-one : {A : Type 0} {o p : Outcome A} {r q : ChannelRecord} → keeping o r ≡ keeping p q → (o ≡ p) × (r ≡ q)
 keeping-one e = (cc, cc)
+
+-- two verdicts on a frame that leave the same are the same; the refusal of an answer is a function of it
+abbrev refusalIn : Outcome Arrival → Refusal
+refusalIn (done a) = Truncated
+refusalIn (refused k vs) = refusalOf k vs
+
+pub verdict-one : (r : ChannelRecord) (k : Channel) (w n : ℕ) (v u : Verdict) → judgedIn r v ≡ judgedIn r u → SlotJudged r k w n v → SlotJudged r k w n u → v ≡ u
+verdict-one r k w n (verdict.Done a i s) (verdict.Done b j t) e p q =
+    let ab : a ≡ b = done-one (keeping-one e .0) in
+    let ij : i ≡ j = p .0 ∙ sym (q .0) in
+    let st : s ≡ t = p .2 ∙ ap (λ (m : ℕ). Heard k w (totalsAt (stateAt r m) n)) ij ∙ sym (q .2) in
+    λ x. verdict.Done (ab x) (ij x) (st x)
+verdict-one r k w n (verdict.Done a i s) (verdict.Refused y) e p q =
+    let h = keeping-one e .0 in let z : _≡_ {A = ℕ} 0 1 = cc in absurd (omega arith)
+verdict-one r k w n (verdict.Refused x) (verdict.Done b j t) e p q =
+    let h = keeping-one e .0 in let z : _≡_ {A = ℕ} 0 1 = cc in absurd (omega arith)
+verdict-one r k w n (verdict.Refused x) (verdict.Refused y) e p q =
+    ap verdict.Refused (sym (refusal-back x) ∙ ap refusalIn (keeping-one e .0) ∙ refusal-back y)

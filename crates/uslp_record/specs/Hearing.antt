@@ -1,5 +1,6 @@
 -- Hearing a frame of a channel, as numbers: NEW, REPEAT or LATE, and the totals that it leaves.
-use Prim.Native.Nat.{ℕ, _+_, _-_, _^_, _%_, _/_}
+use mathlib.Core.Path.{_≡_}
+use Prim.Native.Nat.{ℕ, _+_, _-_, _^_, _%_, _/_, _<_}
 use mathlib.Core.Bool.{Bool, cond, not, _||_}
 use mathlib.Core.List.{List, [], _∷_}
 use lib.Dec.{eqb, leb, ltb}
@@ -16,6 +17,8 @@ use Rattle.uslp_record.specs.declared.Arrival.{Arrival}
 use Rattle.uslp_record.specs.declared.Arrival.the-variants.{New, Repeat, Late}
 use Rattle.uslp_record.specs.declared.HearAnswer.{HearAnswer}
 use Rattle.uslp_record.specs.declared.HearAnswer.the-variants as hear-answer
+use Rattle.uslp_record.specs.declared.Verdict.{Verdict}
+use Rattle.uslp_record.specs.declared.Verdict.the-variants as verdict
 
 abbrev pub paperHeard : HearAnswer → Outcome Arrival
 paperHeard (hear-answer.Done a) = done a
@@ -71,3 +74,14 @@ hearing r k width count =
     (done (arrivalAt (stateAt r (find k (r .slots))) count)))
     (put r (find k (r .slots)) (Heard k width (totalsAt (stateAt r (find k (r .slots))) count)))
     r
+
+-- what a verdict leaves of a record: another state in one slot, or nothing changed
+abbrev pub judgedIn : ChannelRecord → Verdict → Kept Arrival
+judgedIn r (verdict.Done arrival at state) = keeping (done arrival) (put r at state)
+judgedIn r (verdict.Refused x) = keeping (refusal x) r
+
+-- the slot is the one of the eight that holds the channel
+abbrev pub SlotJudged : ChannelRecord → Channel → ℕ → ℕ → Verdict → Type 0
+SlotJudged r k width count (verdict.Done arrival at state) =
+    (at ≡ find k (r .slots)) × (at < 8) × (state ≡ Heard k width (totalsAt (stateAt r at) count))
+SlotJudged r k width count (verdict.Refused x) = Unit {0}

@@ -6,6 +6,7 @@ use crate::HearAnswer;
 use crate::Hearing;
 use crate::SlotState;
 use crate::Totals;
+use crate::Verdict;
 use crate::replaced;
 use crate::search;
 use uslp_kinds::Refusal;
@@ -13,34 +14,49 @@ ghost use mathlib.Core.Path.{_≡_};
 ghost use Prim.Native.Nat.{_+_, _≤_, _<_, _^_};
 ghost use mathlib.Core.Bool.{false};
 ghost use Rattle.uslp_record.specs.Record.{keeping};
-ghost use Rattle.uslp_record.specs.Hearing.{paperHeard, ahead, arrivalOf, totalsAfter, firstTotals, overfull, arrivalAt, totalsAt, widthAt, hearing};
+ghost use Rattle.uslp_record.specs.Hearing.{paperHeard, ahead, arrivalOf, totalsAfter, firstTotals, overfull, arrivalAt, totalsAt, widthAt, hearing, judgedIn, SlotJudged};
 
 impl ChannelRecord {
     // Refuses BAD_FIELD for a width that no frame has, NOT_OPEN, OTHER_WIDTH, TOTAL_FULL.
     pub fn hear_count(self, channel: Channel, width: u8, count: u64) -> Hearing
         ensures { λ r. ⌜ keeping (paperHeard (r .answer)) (r .next) ≡ hearing self channel width count ⌝ }
     {
+        match self.judge_count(channel, width, count) {
+            Verdict::Done { arrival, at, state } => Hearing {
+                answer: HearAnswer::Done(arrival),
+                next: replaced(self, at, state),
+            },
+            Verdict::Refused(refusal) => Hearing {
+                answer: HearAnswer::Refused(refusal),
+                next: self,
+            },
+        }
+    }
+
+    // The same, but the record is only read: whoever holds it takes the new state over, in place.
+    pub fn judge_count(self, channel: Channel, width: u8, count: u64) -> Verdict
+        ensures { λ r. ⌜ (judgedIn self r ≡ hearing self channel width count) × SlotJudged self channel width count r ⌝ }
+    {
         if width > 7 {
-            return unheard(Refusal::BadField, self);
+            return Verdict::Refused(Refusal::BadField);
         }
         let at = search(self, channel);
         if at >= 8 {
-            return unheard(Refusal::NotOpen, self);
+            return Verdict::Refused(Refusal::NotOpen);
         }
         let slots = self.slots;
         let slot = slots[at];
         let state = slot.state;
         let opened = width_of(state);
         if width != opened {
-            let other = Refusal::OtherWidth {
+            return Verdict::Refused(Refusal::OtherWidth {
                 frame: width,
                 opened,
-            };
-            return unheard(other, self);
+            });
         }
         let step = step_of(state, count);
         if step.full {
-            return unheard(Refusal::TotalFull, self);
+            return Verdict::Refused(Refusal::TotalFull);
         }
         let arrival = step.arrival;
         let totals = step.totals;
@@ -49,9 +65,10 @@ impl ChannelRecord {
             width,
             totals,
         };
-        Hearing {
-            answer: HearAnswer::Done(arrival),
-            next: replaced(self, at, heard),
+        Verdict::Done {
+            arrival,
+            at,
+            state: heard,
         }
     }
 }
@@ -61,15 +78,6 @@ struct Step {
     full: bool,
     arrival: Arrival,
     totals: Totals,
-}
-
-fn unheard(refusal: Refusal, channels: ChannelRecord) -> Hearing
-    ensures { λ r. ⌜ (r .answer ≡ HearAnswer.Refused refusal) × (r .next ≡ channels) ⌝ }
-{
-    Hearing {
-        answer: HearAnswer::Refused(refusal),
-        next: channels,
-    }
 }
 
 fn width_of(state: SlotState) -> u8

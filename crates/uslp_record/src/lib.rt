@@ -76,6 +76,16 @@ pub enum HearAnswer {
     Refused(Refusal),
 }
 
+// What a hearing changes: the state of one slot, or nothing.
+pub enum Verdict {
+    Done {
+        arrival: Arrival,
+        at: usize,
+        state: SlotState,
+    },
+    Refused(Refusal),
+}
+
 // An answer to a hearing, and the record after it.
 pub struct Hearing {
     pub answer: HearAnswer,

@@ -1,44 +1,42 @@
--- `uslp_channel::hear` meets its contract: it is read first, then counted.
-use mathlib.Core.Path.{ap, _∙_}
-use denote.Ref.{now}
-use Rattle.uslp_reader.specs.Reader.{paperFrame}
-use Rattle.uslp_channel.proofs.Heard.{heard-done, heard-refused}
+-- `uslp_channel::hear` meets its contract: the record that is left is the one that the verdict says.
+-- Assumes nothing.
+use mathlib.Core.Path.{sym, ap, _∙_}
+use Rattle.uslp_kinds.specs.Outcome.{done}
+use Rattle.uslp_record.specs.Record.{keeping}
+use Rattle.uslp_channel.specs.Channel.{frameJudgedIn}
 use borrow.Author.Needs.{needs}
 use Rattle.uslp_channel.proofs.hear.Statement.{statement}
 use Rattle.uslp_channel.proofs.hear.Tie as tie
 
-from-bytes-requires : tie.Need-from-bytes-requires
-from-bytes-requires c κs = search needs
+judge-requires : tie.Need-judge-requires
+judge-requires c κs = search needs
 
-enum-known-frame : tie.Need-enum-known-frame
-enum-known-frame c = search needs
+enum-known-arrival : tie.Need-enum-known-arrival
+enum-known-arrival c = search needs
 
-count-frame-requires : tie.Need-count-frame-requires
-count-frame-requires c κs = search needs
+replaced-requires : tie.Need-replaced-requires
+replaced-requires c κs = search needs
 
 enum-known-refusal : tie.Need-enum-known-refusal
 enum-known-refusal c = search needs
 
 returns : tie.Need-returns
 returns c =
-    let k = c .before .before .before .before in
-    let a = k .before .before .args in
-    c .count-frame .ensures
-    ∙ heard-done (a .channels) (now (a .buf)) (a .has-fecf) (k .from-bytes .result) (k .from-bytes .ensures) _ (ap paperFrame (c .before .before .frame .given .1))
+    let j = c .before .before .before .before in
+    ap (keeping (done (c .before .before .arrival .given .0 .0))) (c .replaced .ensures) ∙ sym (ap (frameJudgedIn (j .before .before .args .channels)) (c .before .before .arrival .given .1)) ∙ j .judge .ensures .0
 
 returns-2 : tie.Need-returns-2
 returns-2 c =
-    let k = c .before .before .before in
-    let a = k .before .before .args in
-    heard-refused (a .channels) (now (a .buf)) (a .has-fecf) (k .from-bytes .result) (k .from-bytes .ensures) _ _ (ap paperFrame (c .before .refusal .given .1))
+    let j = c .before .before .before in
+    sym (ap (frameJudgedIn (j .before .before .args .channels)) (c .before .refusal .given .1)) ∙ j .judge .ensures .0
 
 pub hear-spec : {M : Type 1} → statement M
 hear-spec =
     tie.close
     (tie.spec
-    from-bytes-requires
-    enum-known-frame
-    count-frame-requires
+    judge-requires
+    enum-known-arrival
+    replaced-requires
     enum-known-refusal
     returns
     returns-2)
