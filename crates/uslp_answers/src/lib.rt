@@ -6,10 +6,17 @@ use uslp_kinds::FhpOrLvo;
 use uslp_kinds::LengthAnswer;
 use uslp_kinds::OperationalControlField;
 use uslp_kinds::Refusal;
+use uslp_text::put_number;
+use uslp_text::put_text;
 use uslp_words::next_word;
-use uslp_words::put_number;
 use uslp_words::put_octets;
-use uslp_words::put_text;
+ghost use mathlib.Core.Path.{_≡_};
+ghost use Rattle.uslp_kinds.specs.Outcome.{leaving};
+ghost use Rattle.uslp_kinds.specs.Answers.{sheet, paperLength};
+ghost use Rattle.uslp_text.specs.Text.{Told};
+ghost use Rattle.uslp_words.specs.Words.{wordFrom, textOf};
+ghost use Rattle.uslp_arguments.specs.Arguments.{troubleName};
+ghost use Rattle.uslp_answers.specs.Texts.{fieldText, fieldsText, dataText, refusalText, writtenText, headerText, fieldHeaderText, ocfText, troubleText, carriedIn};
 
 // What a refusal carries behind its number.
 enum Carried {
@@ -19,13 +26,18 @@ enum Carried {
 }
 
 // A space, and a number.
-pub fn put_field(value: u64, out: &mut [u8], at: usize) -> usize {
+pub fn put_field(value: u64, out: &mut [u8], at: usize) -> usize
+    ensures { λ r. ⌜ Told (fieldText value) at (now (out .entry)) r (now (out .exit)) ⌝ }
+{
     let start = put_text(b" ", out, at);
     put_number(value, out, start)
 }
 
-pub fn put_fields(values: &[u64], out: &mut [u8], at: usize) -> usize {
-    let mut place = at;
+// A place past the buffer is told as its end, also where there are no numbers.
+pub fn put_fields(values: &[u64], out: &mut [u8], at: usize) -> usize
+    ensures { λ r. ⌜ Told (fieldsText (now (values .entry))) at (now (out .entry)) r (now (out .exit)) ⌝ }
+{
+    let mut place = put_text(b"", out, at);
     let mut i: usize = 0;
     while i < values.len() {
         place = put_field(values[i], out, place);
@@ -35,12 +47,16 @@ pub fn put_fields(values: &[u64], out: &mut [u8], at: usize) -> usize {
 }
 
 // A space, and octets in hex.
-pub fn put_data(octets: &[u8], out: &mut [u8], at: usize) -> usize {
+pub fn put_data(octets: &[u8], out: &mut [u8], at: usize) -> usize
+    ensures { λ r. ⌜ Told (dataText (now (octets .entry))) at (now (out .entry)) r (now (out .exit)) ⌝ }
+{
     let start = put_text(b" ", out, at);
     put_octets(octets, out, start)
 }
 
-pub fn put_refusal(refusal: Refusal, out: &mut [u8]) -> usize {
+pub fn put_refusal(refusal: Refusal, out: &mut [u8]) -> usize
+    ensures { λ r. ⌜ Told (refusalText (sheet refusal .0) (sheet refusal .1)) 0 (now (out .entry)) r (now (out .exit)) ⌝ }
+{
     let at = put_number(refusal.number() as u64, out, 0);
     match carried_by(refusal) {
         Carried::Nothing => at,
@@ -49,7 +65,9 @@ pub fn put_refusal(refusal: Refusal, out: &mut [u8]) -> usize {
     }
 }
 
-fn carried_by(refusal: Refusal) -> Carried {
+fn carried_by(refusal: Refusal) -> Carried
+    ensures { λ r. ⌜ carriedIn r ≡ sheet refusal .1 ⌝ }
+{
     match refusal {
         Refusal::ShortSource { found, expected } => Carried::Two(found as u64, expected as u64),
         Refusal::ShortTarget { found, expected } => Carried::Two(found as u64, expected as u64),
@@ -65,7 +83,9 @@ fn carried_by(refusal: Refusal) -> Carried {
 }
 
 // How many octets were written, and the whole buffer.
-pub fn put_written(answer: LengthAnswer, buf: &[u8], out: &mut [u8]) -> usize {
+pub fn put_written(answer: LengthAnswer, buf: &[u8], out: &mut [u8]) -> usize
+    ensures { λ r. ⌜ Told (writtenText (leaving (paperLength answer) (now (buf .entry)))) 0 (now (out .entry)) r (now (out .exit)) ⌝ }
+{
     match answer {
         LengthAnswer::Done(n) => {
             let start = put_text(b"0", out, 0);
@@ -76,7 +96,9 @@ pub fn put_written(answer: LengthAnswer, buf: &[u8], out: &mut [u8]) -> usize {
     }
 }
 
-pub fn put_header(header: PrimaryHeader, out: &mut [u8], at: usize) -> usize {
+pub fn put_header(header: PrimaryHeader, out: &mut [u8], at: usize) -> usize
+    ensures { λ r. ⌜ Told (headerText header) at (now (out .entry)) r (now (out .exit)) ⌝ }
+{
     let dest = header.source_or_dest_field;
     let bypass = header.sequence_control_flag;
     let command = header.protocol_control_command_flag;
@@ -95,7 +117,9 @@ pub fn put_header(header: PrimaryHeader, out: &mut [u8], at: usize) -> usize {
     put_fields(&fields, out, at)
 }
 
-pub fn put_field_header(header: TransferFrameDataFieldHeader, out: &mut [u8], at: usize) -> usize {
+pub fn put_field_header(header: TransferFrameDataFieldHeader, out: &mut [u8], at: usize) -> usize
+    ensures { λ r. ⌜ Told (fieldHeaderText header) at (now (out .entry)) r (now (out .exit)) ⌝ }
+{
     let rule = header.construction_rule;
     let id = header.uslp_protocol_id;
     let pointer = header.fhp_or_lvo;
@@ -107,7 +131,9 @@ pub fn put_field_header(header: TransferFrameDataFieldHeader, out: &mut [u8], at
     }
 }
 
-pub fn put_ocf(ocf: OperationalControlField, out: &mut [u8], at: usize) -> usize {
+pub fn put_ocf(ocf: OperationalControlField, out: &mut [u8], at: usize) -> usize
+    ensures { λ r. ⌜ Told (ocfText ocf) at (now (out .entry)) r (now (out .exit)) ⌝ }
+{
     match ocf {
         OperationalControlField::Absent => put_text(b" -", out, at),
         OperationalControlField::Present(value) => put_field(value as u64, out, at),
@@ -115,7 +141,9 @@ pub fn put_ocf(ocf: OperationalControlField, out: &mut [u8], at: usize) -> usize
 }
 
 // Bad, and what is.
-pub fn put_trouble(trouble: Trouble, out: &mut [u8]) -> usize {
+pub fn put_trouble(trouble: Trouble, out: &mut [u8]) -> usize
+    ensures { λ r. ⌜ Told (troubleText trouble) 0 (now (out .entry)) r (now (out .exit)) ⌝ }
+{
     let name = name_of(trouble);
     let word = next_word(&name, 0);
     let start = word.start;
@@ -125,9 +153,11 @@ pub fn put_trouble(trouble: Trouble, out: &mut [u8]) -> usize {
 }
 
 // The name of a place, with blanks behind it.
-fn name_of(trouble: Trouble) -> [u8; 9] {
+fn name_of(trouble: Trouble) -> [u8; 9]
+    ensures { λ r. ⌜ textOf r (wordFrom r 0) ≡ troubleName trouble ⌝ }
+{
     match trouble {
-        Trouble::Nothing => *b"nothing  ",
+        Trouble::Nothing => *b"         ",
         Trouble::Command => *b"command  ",
         Trouble::Arguments => *b"arguments",
         Trouble::Hex => *b"hex      ",

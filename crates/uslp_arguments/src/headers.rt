@@ -17,8 +17,13 @@ use uslp_kinds::ProtocolControlCommandFlag;
 use uslp_kinds::ProtocolIdAnswer;
 use uslp_kinds::SourceOrDestField;
 use uslp_kinds::UslpProtocolId;
-ghost use Prim.Native.Nat.{_≤_};
+ghost use mathlib.Core.Path.{_≡_};
+ghost use mathlib.Core.Bool.{cond};
+ghost use lib.Dec.{ltb};
 ghost use lib.ListN.{length};
+ghost use Rattle.uslp_kinds.specs.Kinds.{protocolOf};
+ghost use Rattle.uslp_arguments.specs.Arguments.{octetsAfter};
+ghost use Rattle.uslp_arguments.specs.Headers.{octetOf, idWords, flagWords, headerOf, pointerOf, ocfOf, idOr, idTrouble, fieldWords, frameWords, dataRest};
 
 pub struct IdWords {
     pub scid: u16,
@@ -44,11 +49,6 @@ pub struct FieldWords {
     pub rest: Rest,
 }
 
-struct OcfWord {
-    ocf: OperationalControlField,
-    rest: Rest,
-}
-
 // A frame, the length of its buffer, and how many octets of data it has.
 pub struct FrameWords {
     pub frame: TransferFrameCreator,
@@ -57,7 +57,9 @@ pub struct FrameWords {
     pub trouble: Trouble,
 }
 
-pub fn ids(line: &[u8], rest: Rest) -> IdWords {
+pub fn ids(line: &[u8], rest: Rest) -> IdWords
+    ensures { λ r. ⌜ r ≡ idWords (now (line .entry)) rest ⌝ }
+{
     let scid = number(line, rest, 65535, Trouble::Scid);
     let after_scid = scid.rest;
     let dest = flag(line, after_scid, Trouble::Dest);
@@ -76,14 +78,18 @@ pub fn ids(line: &[u8], rest: Rest) -> IdWords {
 }
 
 // A channel, map or width that fits no octet is told as one that the library refuses.
-pub fn octet_of(value: u64) -> u8 {
+pub fn octet_of(value: u64) -> u8
+    ensures { λ r. ⌜ r ≡ octetOf value ⌝ }
+{
     if value > 255 {
         return 255;
     }
     value as u8
 }
 
-pub fn flags(line: &[u8], rest: Rest) -> FlagWords {
+pub fn flags(line: &[u8], rest: Rest) -> FlagWords
+    ensures { λ r. ⌜ r ≡ flagWords (now (line .entry)) rest ⌝ }
+{
     let bypass = flag(line, rest, Trouble::Bypass);
     let after_bypass = bypass.rest;
     let pcc = flag(line, after_bypass, Trouble::Pcc);
@@ -104,7 +110,9 @@ pub fn flags(line: &[u8], rest: Rest) -> FlagWords {
     }
 }
 
-pub fn header_of(id_words: IdWords, flag_words: FlagWords) -> PrimaryHeader {
+pub fn header_of(id_words: IdWords, flag_words: FlagWords) -> PrimaryHeader
+    ensures { λ r. ⌜ r ≡ headerOf «id_words» «flag_words» ⌝ }
+{
     PrimaryHeader {
         spacecraft_id: id_words.scid,
         source_or_dest_field: SourceOrDestField::from_number(id_words.dest as u8),
@@ -121,7 +129,9 @@ pub fn header_of(id_words: IdWords, flag_words: FlagWords) -> PrimaryHeader {
     }
 }
 
-fn field_words(line: &[u8], rest: Rest) -> FieldWords {
+fn field_words(line: &[u8], rest: Rest) -> FieldWords
+    ensures { λ r. ⌜ r ≡ fieldWords (now (line .entry)) rest ⌝ }
+{
     let rule = number(line, rest, u64::MAX, Trouble::Rule);
     let after_rule = rule.rest;
     let pid = number(line, after_rule, u64::MAX, Trouble::Pid);
@@ -140,21 +150,27 @@ fn field_words(line: &[u8], rest: Rest) -> FieldWords {
     }
 }
 
-fn pointer_of(present: bool, value: u16) -> FhpOrLvo {
+fn pointer_of(present: bool, value: u16) -> FhpOrLvo
+    ensures { λ r. ⌜ r ≡ pointerOf present value ⌝ }
+{
     if present {
         return FhpOrLvo::Present(value);
     }
     FhpOrLvo::Absent
 }
 
-fn protocol_of(number: u8) -> UslpProtocolId {
+fn protocol_of(number: u8) -> UslpProtocolId
+    ensures { λ r. ⌜ r ≡ idOr (protocolOf number) ⌝ }
+{
     match UslpProtocolId::from_number(number) {
         ProtocolIdAnswer::Done(id) => id,
         ProtocolIdAnswer::Refused(_) => UslpProtocolId::Idle,
     }
 }
 
-fn field_trouble(rule: u64, pid: u8) -> Trouble {
+fn field_trouble(rule: u64, pid: u8) -> Trouble
+    ensures { λ r. ⌜ r ≡ cond (ltb 7 rule) Trouble.Rule (idTrouble (protocolOf pid)) ⌝ }
+{
     if rule > 7 {
         return Trouble::Rule;
     }
@@ -165,7 +181,7 @@ fn field_trouble(rule: u64, pid: u8) -> Trouble {
 }
 
 pub fn frame_words(line: &[u8], rest: Rest, limit: usize, octets: &mut [u8]) -> FrameWords
-    ensures { λ r. ⌜ (r .room ≤ limit) × (r .count ≤ length (now (octets .exit))) ⌝ }
+    ensures { λ r. ⌜ (r ≡ frameWords (now (line .entry)) rest limit (length (now (octets .entry)))) × (now (octets .exit) ≡ octetsAfter (now (line .entry)) (dataRest (now (line .entry)) rest limit) (now (octets .entry))) ⌝ }
 {
     let id_words = ids(line, rest);
     let after_ids = id_words.rest;
@@ -173,9 +189,8 @@ pub fn frame_words(line: &[u8], rest: Rest, limit: usize, octets: &mut [u8]) -> 
     let after_flags = flag_words.rest;
     let field_part = field_words(line, after_flags);
     let after_field = field_part.rest;
-    let ocf_part = ocf_word(line, after_field);
-    let ocf = ocf_part.ocf;
-    let after_ocf = ocf_part.rest;
+    let ocf = optional(line, after_field, 4294967295, Trouble::Ocf);
+    let after_ocf = ocf.rest;
     let fecf = flag(line, after_ocf, Trouble::Fecf);
     let after_fecf = fecf.rest;
     let room = number(line, after_fecf, limit as u64, Trouble::BufLen);
@@ -189,7 +204,7 @@ pub fn frame_words(line: &[u8], rest: Rest, limit: usize, octets: &mut [u8]) -> 
     let frame = TransferFrameCreator {
         primary_header: header_of(id_words, flag_words),
         data_field_header: field,
-        operational_control_field: ocf,
+        operational_control_field: ocf_of(ocf.present, ocf.value as u32),
         has_fecf: fecf.value,
     };
     FrameWords {
@@ -200,17 +215,11 @@ pub fn frame_words(line: &[u8], rest: Rest, limit: usize, octets: &mut [u8]) -> 
     }
 }
 
-fn ocf_word(line: &[u8], rest: Rest) -> OcfWord {
-    let word = optional(line, rest, 4294967295, Trouble::Ocf);
-    let after = word.rest;
-    if word.present {
-        return OcfWord {
-            ocf: OperationalControlField::Present(word.value as u32),
-            rest: after,
-        };
+fn ocf_of(present: bool, value: u32) -> OperationalControlField
+    ensures { λ r. ⌜ r ≡ ocfOf present value ⌝ }
+{
+    if present {
+        return OperationalControlField::Present(value);
     }
-    OcfWord {
-        ocf: OperationalControlField::Absent,
-        rest: after,
-    }
+    OperationalControlField::Absent
 }

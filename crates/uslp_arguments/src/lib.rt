@@ -4,10 +4,12 @@ use uslp_words::OctetsAnswer;
 use uslp_words::next_word;
 use uslp_words::number_in;
 use uslp_words::octets_in;
+ghost use mathlib.Core.Path.{_≡_};
 ghost use Prim.Native.Nat.{_≤_};
 ghost use lib.ListN.{length};
+ghost use Rattle.uslp_arguments.specs.Arguments.{isTrouble, troubledBy, wordNext, behind, endedAt, numberWord, flagWord, optionalWord, octetsWord, octetsAfter};
 
-mod headers;
+pub mod headers;
 
 pub use headers::FlagWords;
 pub use headers::FrameWords;
@@ -77,7 +79,9 @@ struct Argument {
     rest: Rest,
 }
 
-pub fn is_trouble(trouble: Trouble) -> bool {
+pub fn is_trouble(trouble: Trouble) -> bool
+    ensures { λ r. ⌜ r ≡ isTrouble trouble ⌝ }
+{
     match trouble {
         Trouble::Nothing => false,
         _ => true,
@@ -85,7 +89,9 @@ pub fn is_trouble(trouble: Trouble) -> bool {
 }
 
 // The first trouble stays.
-pub fn troubled(rest: Rest, trouble: Trouble) -> Rest {
+pub fn troubled(rest: Rest, trouble: Trouble) -> Rest
+    ensures { λ r. ⌜ r ≡ troubledBy trouble rest ⌝ }
+{
     let first = rest.trouble;
     if is_trouble(first) {
         return rest;
@@ -97,7 +103,7 @@ pub fn troubled(rest: Rest, trouble: Trouble) -> Rest {
 }
 
 fn next_argument(line: &[u8], rest: Rest) -> Argument
-    ensures { λ r. ⌜ (r .start ≤ r .end) × (r .end ≤ length (now (line .entry))) ⌝ }
+    ensures { λ r. ⌜ (r .start ≡ wordNext (now (line .entry)) rest .start) × (r .end ≡ wordNext (now (line .entry)) rest .end) × (r .rest ≡ behind (now (line .entry)) rest) × (r .start ≤ r .end) × (r .end ≤ length (now (line .entry))) ⌝ }
 {
     let at = rest.at;
     let word = next_word(line, at);
@@ -121,7 +127,7 @@ fn next_argument(line: &[u8], rest: Rest) -> Argument
 
 // A number up to a limit; 0 where there is none.
 pub fn number(line: &[u8], rest: Rest, limit: u64, name: Trouble) -> NumberWord
-    ensures { λ r. ⌜ r .value ≤ limit ⌝ }
+    ensures { λ r. ⌜ r ≡ numberWord (now (line .entry)) rest limit name ⌝ }
 {
     let word = next_argument(line, rest);
     let start = word.start;
@@ -140,7 +146,9 @@ pub fn number(line: &[u8], rest: Rest, limit: u64, name: Trouble) -> NumberWord
 }
 
 // 0 or 1, in one character.
-pub fn flag(line: &[u8], rest: Rest, name: Trouble) -> FlagWord {
+pub fn flag(line: &[u8], rest: Rest, name: Trouble) -> FlagWord
+    ensures { λ r. ⌜ r ≡ flagWord (now (line .entry)) rest name ⌝ }
+{
     let word = next_argument(line, rest);
     let start = word.start;
     let end = word.end;
@@ -165,7 +173,7 @@ pub fn flag(line: &[u8], rest: Rest, name: Trouble) -> FlagWord {
 }
 
 pub fn optional(line: &[u8], rest: Rest, limit: u64, name: Trouble) -> OptionalWord
-    ensures { λ r. ⌜ r .value ≤ limit ⌝ }
+    ensures { λ r. ⌜ r ≡ optionalWord (now (line .entry)) rest limit name ⌝ }
 {
     let word = next_argument(line, rest);
     let start = word.start;
@@ -190,7 +198,7 @@ pub fn optional(line: &[u8], rest: Rest, limit: u64, name: Trouble) -> OptionalW
 
 // The last word: octets in hex, or a dash for none.
 pub fn last_octets(line: &[u8], rest: Rest, to: &mut [u8]) -> OctetsWord
-    ensures { λ r. ⌜ r .count ≤ length (now (to .exit)) ⌝ }
+    ensures { λ r. ⌜ (r ≡ octetsWord (now (line .entry)) rest (length (now (to .entry)))) × (now (to .exit) ≡ octetsAfter (now (line .entry)) rest (now (to .entry))) ⌝ }
 {
     let word = next_argument(line, rest);
     let start = word.start;
@@ -203,23 +211,22 @@ pub fn last_octets(line: &[u8], rest: Rest, to: &mut [u8]) -> OctetsWord
             rest: ended(line, next),
         };
     }
-    let answer = octets_in(text, to);
-    if let OctetsAnswer::Octets(count) = answer {
-        if count <= to.len() {
-            return OctetsWord {
-                count,
-                rest: ended(line, next),
-            };
-        }
-    }
-    OctetsWord {
-        count: 0,
-        rest: troubled(next, Trouble::Hex),
+    match octets_in(text, to) {
+        OctetsAnswer::Octets(count) => OctetsWord {
+            count,
+            rest: ended(line, next),
+        },
+        _ => OctetsWord {
+            count: 0,
+            rest: troubled(next, Trouble::Hex),
+        },
     }
 }
 
 // No more words.
-pub fn ended(line: &[u8], rest: Rest) -> Rest {
+pub fn ended(line: &[u8], rest: Rest) -> Rest
+    ensures { λ r. ⌜ r ≡ endedAt (now (line .entry)) rest ⌝ }
+{
     let at = rest.at;
     let word = next_word(line, at);
     if word.start == word.end {

@@ -1,5 +1,5 @@
 // The words of the commands that leave the record alone, and which command they go to.
-use crate::command::Command;
+use crate::command::OctetsCommand;
 use uslp_answers::put_trouble;
 use uslp_arguments::Rest;
 use uslp_arguments::Trouble;
@@ -19,14 +19,23 @@ use uslp_bench_frames::fw;
 use uslp_bench_frames::hr;
 use uslp_bench_frames::hw;
 use uslp_bench_frames::rw;
+ghost use mathlib.Core.Path.{_≡_};
+ghost use lib.ListN.{length};
+ghost use Rattle.uslp_text.specs.Text.{Told};
+ghost use Rattle.uslp_arguments.specs.Arguments.{octetsAfter};
+ghost use Rattle.uslp_arguments.specs.Headers.{dataRest};
+ghost use Rattle.uslp_bench_channels.specs.Commands.{hearLeft};
+ghost use Rattle.uslp_bench.specs.Commands.{octetsCommandText, octetsReply, frReply, writingText, writingLeft, hwWriting, frameWritten, FrameTold};
 
 pub fn answer_octets(
-    command: Command,
+    command: OctetsCommand,
     line: &[u8],
     rest: Rest,
     octets: &mut [u8],
     out: &mut [u8],
-) -> usize {
+) -> usize
+    ensures { λ r. ⌜ Told (octetsReply command (now (line .entry)) rest (now (octets .entry))) 0 (now (out .entry)) r (now (out .exit)) × (now (octets .exit) ≡ octetsAfter (now (line .entry)) rest (now (octets .entry))) ⌝ }
+{
     let word = last_octets(line, rest, octets);
     let n = word.count;
     let end = word.rest;
@@ -34,14 +43,22 @@ pub fn answer_octets(
     if is_trouble(trouble) {
         return put_trouble(trouble, out);
     }
+    put_octets_command(command, &octets[0..n], out)
+}
+
+fn put_octets_command(command: OctetsCommand, octets: &[u8], out: &mut [u8]) -> usize
+    ensures { λ r. ⌜ Told (octetsCommandText command (now (octets .entry))) 0 (now (out .entry)) r (now (out .exit)) ⌝ }
+{
     match command {
-        Command::Crc => crc(&octets[0..n], out),
-        Command::Hr => hr(&octets[0..n], out),
-        _ => dr(&octets[0..n], out),
+        OctetsCommand::Crc => crc(octets, out),
+        OctetsCommand::Hr => hr(octets, out),
+        OctetsCommand::Dr => dr(octets, out),
     }
 }
 
-pub fn answer_fr(line: &[u8], rest: Rest, octets: &mut [u8], out: &mut [u8]) -> usize {
+pub fn answer_fr(line: &[u8], rest: Rest, octets: &mut [u8], out: &mut [u8]) -> usize
+    ensures { λ r. ⌜ Told (frReply (now (line .entry)) rest (now (octets .entry))) 0 (now (out .entry)) r (now (out .exit)) × (now (octets .exit) ≡ hearLeft (now (line .entry)) rest (now (octets .entry))) ⌝ }
+{
     let fecf = flag(line, rest, Trouble::Fecf);
     let behind = fecf.rest;
     let word = last_octets(line, behind, octets);
@@ -54,7 +71,9 @@ pub fn answer_fr(line: &[u8], rest: Rest, octets: &mut [u8], out: &mut [u8]) -> 
     fr(&octets[0..n], fecf.value, out)
 }
 
-pub fn answer_hw(line: &[u8], rest: Rest, buf: &mut [u8], out: &mut [u8]) -> usize {
+pub fn answer_hw(line: &[u8], rest: Rest, buf: &mut [u8], out: &mut [u8]) -> usize
+    ensures { λ r. ⌜ Told (writingText (hwWriting (now (line .entry)) rest (length (now (buf .entry))))) 0 (now (out .entry)) r (now (out .exit)) × (now (buf .exit) ≡ writingLeft (hwWriting (now (line .entry)) rest (length (now (buf .entry)))) (now (buf .entry))) ⌝ }
+{
     let id_words = ids(line, rest);
     let after_ids = id_words.rest;
     let total = number(line, after_ids, u64::MAX, Trouble::Total);
@@ -81,7 +100,9 @@ pub fn answer_frame(
     octets: &mut [u8],
     buf: &mut [u8],
     out: &mut [u8],
-) -> usize {
+) -> usize
+    ensures { λ r. ⌜ FrameTold (frameWritten reserved (now (line .entry)) rest (length (now (buf .entry))) (now (octets .entry))) (now (out .entry)) r (now (out .exit)) (now (buf .entry)) (now (buf .exit)) × (now (octets .exit) ≡ octetsAfter (now (line .entry)) (dataRest (now (line .entry)) rest (length (now (buf .entry)))) (now (octets .entry))) ⌝ }
+{
     let words = frame_words(line, rest, buf.len(), octets);
     let trouble = words.trouble;
     if is_trouble(trouble) {

@@ -21,7 +21,14 @@ use uslp_record::SlotState;
 use uslp_record::StateAnswer;
 use uslp_record::TotalAnswer;
 use uslp_record::Totals;
-use uslp_words::put_text;
+use uslp_text::put_text;
+ghost use mathlib.Core.Path.{_≡_};
+ghost use mathlib.Core.List.{[], _∷_};
+ghost use Rattle.uslp_record.specs.Record.{paperDone};
+ghost use Rattle.uslp_channel.specs.Channel.{paperFrameHeard};
+ghost use Rattle.uslp_text.specs.Text.{Told};
+ghost use Rattle.uslp_answers.specs.Texts.{fieldsText, answerText};
+ghost use Rattle.uslp_bench_channels.specs.Commands.{channelWords, openReply, closeReply, arrivalText, hearOctets, hearReply, hearLeft, stateText, showText, totalText};
 
 // The record after a command, and the length of its answer in the text buffer.
 pub struct Answered {
@@ -34,7 +41,9 @@ struct ChannelWords {
     rest: Rest,
 }
 
-fn channel_words(line: &[u8], rest: Rest) -> ChannelWords {
+fn channel_words(line: &[u8], rest: Rest) -> ChannelWords
+    ensures { λ r. ⌜ r ≡ channelWords (now (line .entry)) rest ⌝ }
+{
     let scid = number(line, rest, 65535, Trouble::Scid);
     let after_scid = scid.rest;
     let vc = number(line, after_scid, u64::MAX, Trouble::Vc);
@@ -49,7 +58,9 @@ fn channel_words(line: &[u8], rest: Rest) -> ChannelWords {
     }
 }
 
-pub fn open(line: &[u8], rest: Rest, channels: ChannelRecord, out: &mut [u8]) -> Answered {
+pub fn open(line: &[u8], rest: Rest, channels: ChannelRecord, out: &mut [u8]) -> Answered
+    ensures { λ r. ⌜ (r .next ≡ openReply (now (line .entry)) rest channels .next) × Told (openReply (now (line .entry)) rest channels .text) 0 (now (out .entry)) (r .len) (now (out .exit)) ⌝ }
+{
     let words = channel_words(line, rest);
     let after_channel = words.rest;
     let width = number(line, after_channel, u64::MAX, Trouble::Width);
@@ -72,7 +83,9 @@ pub fn open(line: &[u8], rest: Rest, channels: ChannelRecord, out: &mut [u8]) ->
     }
 }
 
-pub fn close(line: &[u8], rest: Rest, channels: ChannelRecord, out: &mut [u8]) -> Answered {
+pub fn close(line: &[u8], rest: Rest, channels: ChannelRecord, out: &mut [u8]) -> Answered
+    ensures { λ r. ⌜ (r .next ≡ closeReply (now (line .entry)) rest channels .next) × Told (closeReply (now (line .entry)) rest channels .text) 0 (now (out .entry)) (r .len) (now (out .exit)) ⌝ }
+{
     let words = channel_words(line, rest);
     let after_channel = words.rest;
     let end = ended(line, after_channel);
@@ -93,7 +106,9 @@ pub fn close(line: &[u8], rest: Rest, channels: ChannelRecord, out: &mut [u8]) -
     }
 }
 
-fn put_done(answer: RecordAnswer, out: &mut [u8]) -> usize {
+fn put_done(answer: RecordAnswer, out: &mut [u8]) -> usize
+    ensures { λ r. ⌜ Told (answerText (λ u. []) (paperDone answer)) 0 (now (out .entry)) r (now (out .exit)) ⌝ }
+{
     match answer {
         RecordAnswer::Done => put_text(b"0", out, 0),
         RecordAnswer::Refused(refusal) => put_refusal(refusal, out),
@@ -106,7 +121,9 @@ pub fn hear(
     channels: ChannelRecord,
     octets: &mut [u8],
     out: &mut [u8],
-) -> Answered {
+) -> Answered
+    ensures { λ r. ⌜ (r .next ≡ hearReply (now (line .entry)) rest channels (now (octets .entry)) .next) × Told (hearReply (now (line .entry)) rest channels (now (octets .entry)) .text) 0 (now (out .entry)) (r .len) (now (out .exit)) × (now (octets .exit) ≡ hearLeft (now (line .entry)) rest (now (octets .entry))) ⌝ }
+{
     let fecf = flag(line, rest, Trouble::Fecf);
     let behind = fecf.rest;
     let word = last_octets(line, behind, octets);
@@ -122,7 +139,9 @@ pub fn hear(
     hear_frame(&octets[0..n], fecf.value, channels, out)
 }
 
-fn hear_frame(octets: &[u8], has_fecf: bool, channels: ChannelRecord, out: &mut [u8]) -> Answered {
+fn hear_frame(octets: &[u8], has_fecf: bool, channels: ChannelRecord, out: &mut [u8]) -> Answered
+    ensures { λ r. ⌜ (r .next ≡ hearOctets (now (octets .entry)) «has_fecf» channels .next) × Told (hearOctets (now (octets .entry)) «has_fecf» channels .text) 0 (now (out .entry)) (r .len) (now (out .exit)) ⌝ }
+{
     let hearing = uslp_channel::hear(channels, octets, has_fecf);
     let answer = hearing.answer;
     let next = hearing.next;
@@ -132,14 +151,18 @@ fn hear_frame(octets: &[u8], has_fecf: bool, channels: ChannelRecord, out: &mut 
     }
 }
 
-fn put_heard(answer: FrameHeard, octets: &[u8], out: &mut [u8]) -> usize {
+fn put_heard(answer: FrameHeard, octets: &[u8], out: &mut [u8]) -> usize
+    ensures { λ r. ⌜ Told (answerText (arrivalText (now (octets .entry))) (paperFrameHeard answer)) 0 (now (out .entry)) r (now (out .exit)) ⌝ }
+{
     match answer {
         FrameHeard::Done(arrival) => put_arrival(arrival, octets, out),
         FrameHeard::Refused(refusal) => put_refusal(refusal, out),
     }
 }
 
-fn put_arrival(arrival: FrameArrival, octets: &[u8], out: &mut [u8]) -> usize {
+fn put_arrival(arrival: FrameArrival, octets: &[u8], out: &mut [u8]) -> usize
+    ensures { λ r. ⌜ Told (48 ∷ arrivalText (now (octets .entry)) arrival) 0 (now (out .entry)) r (now (out .exit)) ⌝ }
+{
     match arrival {
         FrameArrival::New { gap, frame } => {
             let a = put_text(b"0 NEW", out, 0);
@@ -151,7 +174,9 @@ fn put_arrival(arrival: FrameArrival, octets: &[u8], out: &mut [u8]) -> usize {
     }
 }
 
-pub fn show(line: &[u8], rest: Rest, channels: ChannelRecord, out: &mut [u8]) -> usize {
+pub fn show(line: &[u8], rest: Rest, channels: ChannelRecord, out: &mut [u8]) -> usize
+    ensures { λ r. ⌜ Told (showText (now (line .entry)) rest channels) 0 (now (out .entry)) r (now (out .exit)) ⌝ }
+{
     let words = channel_words(line, rest);
     let after_channel = words.rest;
     let end = ended(line, after_channel);
@@ -166,7 +191,9 @@ pub fn show(line: &[u8], rest: Rest, channels: ChannelRecord, out: &mut [u8]) ->
     }
 }
 
-fn put_state(state: SlotState, out: &mut [u8]) -> usize {
+fn put_state(state: SlotState, out: &mut [u8]) -> usize
+    ensures { λ r. ⌜ Told (48 ∷ stateText state) 0 (now (out .entry)) r (now (out .exit)) ⌝ }
+{
     match state {
         // no answer has a closed slot
         SlotState::Closed => put_text(b"0", out, 0),
@@ -183,7 +210,9 @@ fn put_state(state: SlotState, out: &mut [u8]) -> usize {
     }
 }
 
-fn put_totals(width: u8, totals: Totals, out: &mut [u8]) -> usize {
+fn put_totals(width: u8, totals: Totals, out: &mut [u8]) -> usize
+    ensures { λ r. ⌜ Told (48 ∷ fieldsText (width ∷ totals .last ∷ totals .«handed_on» ∷ totals .missing ∷ totals .repeats ∷ totals .late ∷ [])) 0 (now (out .entry)) r (now (out .exit)) ⌝ }
+{
     let a = put_text(b"0", out, 0);
     let fields = [
         width as u64,
@@ -196,7 +225,9 @@ fn put_totals(width: u8, totals: Totals, out: &mut [u8]) -> usize {
     put_fields(&fields, out, a)
 }
 
-pub fn total(line: &[u8], rest: Rest, channels: ChannelRecord, out: &mut [u8]) -> usize {
+pub fn total(line: &[u8], rest: Rest, channels: ChannelRecord, out: &mut [u8]) -> usize
+    ensures { λ r. ⌜ Told (totalText (now (line .entry)) rest channels) 0 (now (out .entry)) r (now (out .exit)) ⌝ }
+{
     let end = ended(line, rest);
     let trouble = end.trouble;
     if is_trouble(trouble) {

@@ -7,5 +7,5 @@ pub use writing::fw;
 pub use writing::hw;
 pub use writing::rw;
 
-mod reading;
-mod writing;
+pub mod reading;
+pub mod writing;

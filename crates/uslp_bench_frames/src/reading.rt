@@ -11,14 +11,21 @@ use uslp_header::HeaderAnswer;
 use uslp_header::PrimaryHeader;
 use uslp_reader::FrameAnswer;
 use uslp_reader::TransferFrame;
-use uslp_words::put_number;
-use uslp_words::put_text;
+use uslp_text::put_number;
+use uslp_text::put_text;
+ghost use Rattle.uslp_text.specs.Text.{Told};
+ghost use Rattle.uslp_bench_frames.specs.Commands.{crcText, hrText, drText, frameText, frText};
+ghost use mathlib.Core.List.{_∷_};
 
-pub fn crc(octets: &[u8], out: &mut [u8]) -> usize {
+pub fn crc(octets: &[u8], out: &mut [u8]) -> usize
+    ensures { λ r. ⌜ Told (crcText (now (octets .entry))) 0 (now (out .entry)) r (now (out .exit)) ⌝ }
+{
     put_number(checksum(octets) as u64, out, 0)
 }
 
-pub fn hr(octets: &[u8], out: &mut [u8]) -> usize {
+pub fn hr(octets: &[u8], out: &mut [u8]) -> usize
+    ensures { λ r. ⌜ Told (hrText (now (octets .entry))) 0 (now (out .entry)) r (now (out .exit)) ⌝ }
+{
     match PrimaryHeader::from_bytes(octets) {
         HeaderAnswer::Done(header) => {
             let at = put_text(b"0", out, 0);
@@ -28,7 +35,9 @@ pub fn hr(octets: &[u8], out: &mut [u8]) -> usize {
     }
 }
 
-pub fn dr(octets: &[u8], out: &mut [u8]) -> usize {
+pub fn dr(octets: &[u8], out: &mut [u8]) -> usize
+    ensures { λ r. ⌜ Told (drText (now (octets .entry))) 0 (now (out .entry)) r (now (out .exit)) ⌝ }
+{
     match TransferFrameDataFieldHeader::from_bytes(octets) {
         DataFieldHeaderAnswer::Done(header) => {
             let at = put_text(b"0", out, 0);
@@ -38,14 +47,18 @@ pub fn dr(octets: &[u8], out: &mut [u8]) -> usize {
     }
 }
 
-pub fn fr(octets: &[u8], has_fecf: bool, out: &mut [u8]) -> usize {
+pub fn fr(octets: &[u8], has_fecf: bool, out: &mut [u8]) -> usize
+    ensures { λ r. ⌜ Told (frText (now (octets .entry)) «has_fecf») 0 (now (out .entry)) r (now (out .exit)) ⌝ }
+{
     match TransferFrame::from_bytes(octets, has_fecf) {
         FrameAnswer::Done(frame) => put_frame(frame, octets, out),
         FrameAnswer::Refused(refusal) => put_refusal(refusal, out),
     }
 }
 
-fn put_frame(frame: TransferFrame, octets: &[u8], out: &mut [u8]) -> usize {
+fn put_frame(frame: TransferFrame, octets: &[u8], out: &mut [u8]) -> usize
+    ensures { λ r. ⌜ Told (48 ∷ frameText (now (octets .entry)) frame) 0 (now (out .entry)) r (now (out .exit)) ⌝ }
+{
     let header = frame.primary_header;
     let field = frame.data_field_header;
     let ocf = frame.operational_control_field;

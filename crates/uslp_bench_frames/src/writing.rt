@@ -8,35 +8,55 @@ use uslp_header::PrimaryHeader;
 use uslp_kinds::LengthAnswer;
 use uslp_octets::copy_octets;
 use uslp_words::fill;
+ghost use mathlib.Core.Path.{_≡_};
+ghost use lib.ListN.{length};
+ghost use Rattle.uslp_kinds.specs.Outcome.{leaving};
+ghost use Rattle.uslp_kinds.specs.Answers.{paperLength};
+ghost use Rattle.uslp_header.specs.Header.{lengthSetting, headerWriting};
+ghost use Rattle.uslp_frame.specs.Frame.{frameWriting};
+ghost use Rattle.uslp_text.specs.Text.{Told};
+ghost use Rattle.uslp_answers.specs.Texts.{writtenText};
+ghost use Rattle.uslp_bench_frames.specs.Commands.{buffer, thenWritten, headerWritten, leftBy, SomeWritten};
 
-pub fn hw(header: PrimaryHeader, total: usize, buf: &mut [u8], out: &mut [u8]) -> usize {
+pub fn hw(header: PrimaryHeader, total: usize, buf: &mut [u8], out: &mut [u8]) -> usize
+    ensures { λ r. ⌜ Told (writtenText (headerWritten header total (buffer (length (now (buf .entry)))))) 0 (now (out .entry)) r (now (out .exit)) × (now (buf .exit) ≡ leftBy (headerWritten header total (buffer (length (now (buf .entry)))))) ⌝ }
+{
     fill(0xEE, buf);
     let answer = write_header(header, total, buf);
     put_written(answer, buf, out)
 }
 
 // A header that cannot be written is told before a length that is too long.
-fn write_header(header: PrimaryHeader, total: usize, buf: &mut [u8]) -> LengthAnswer {
+fn write_header(header: PrimaryHeader, total: usize, buf: &mut [u8]) -> LengthAnswer
+    ensures { λ r. ⌜ leaving (paperLength r) (now (buf .exit)) ≡ headerWritten header total (now (buf .entry)) ⌝ }
+{
     match header.checked() {
         HeaderAnswer::Refused(refusal) => LengthAnswer::Refused(refusal),
         HeaderAnswer::Done(checked) => write_with_len(checked, total, buf),
     }
 }
 
-fn write_with_len(header: PrimaryHeader, total: usize, buf: &mut [u8]) -> LengthAnswer {
+fn write_with_len(header: PrimaryHeader, total: usize, buf: &mut [u8]) -> LengthAnswer
+    ensures { λ r. ⌜ leaving (paperLength r) (now (buf .exit)) ≡ thenWritten (lengthSetting header total) (λ h. headerWriting h (now (buf .entry))) (now (buf .entry)) ⌝ }
+{
     match header.with_frame_len(total) {
         HeaderAnswer::Refused(refusal) => LengthAnswer::Refused(refusal),
         HeaderAnswer::Done(whole) => whole.write_to_slice(buf),
     }
 }
 
-pub fn fw(frame: TransferFrameCreator, data: &[u8], buf: &mut [u8], out: &mut [u8]) -> usize {
+pub fn fw(frame: TransferFrameCreator, data: &[u8], buf: &mut [u8], out: &mut [u8]) -> usize
+    ensures { λ r. ⌜ Told (writtenText (frameWriting frame (now («data» .entry)) (buffer (length (now (buf .entry)))))) 0 (now (out .entry)) r (now (out .exit)) × (now (buf .exit) ≡ leftBy (frameWriting frame (now («data» .entry)) (buffer (length (now (buf .entry)))))) ⌝ }
+{
     fill(0xEE, buf);
     let answer = frame.write_to_slice(data, buf);
     put_written(answer, buf, out)
 }
 
-pub fn rw(frame: TransferFrameCreator, data: &[u8], buf: &mut [u8], out: &mut [u8]) -> usize {
+// The same through a reserved data area. What is told is the buffer that stands, whatever `data_mut`, which has no last contents, left in it.
+pub fn rw(frame: TransferFrameCreator, data: &[u8], buf: &mut [u8], out: &mut [u8]) -> usize
+    ensures { λ r. ⌜ SomeWritten (now (buf .exit)) (now (out .entry)) r (now (out .exit)) ⌝ }
+{
     fill(0xEE, buf);
     let answer = write_reserved(frame, data, buf);
     put_written(answer, buf, out)

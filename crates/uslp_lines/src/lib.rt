@@ -2,11 +2,12 @@
 use libc::STDIN_FILENO;
 use libc::STDOUT_FILENO;
 use uslp_bench::answer;
-use uslp_octets::copy_octets;
 use uslp_record::ChannelRecord;
-use uslp_words::put_text;
-ghost use Prim.Native.Nat.{_<_, _≤_};
-ghost use lib.ListN.{length};
+use uslp_text::put_text;
+ghost use mathlib.Core.Path.{_≡_};
+ghost use Prim.Native.Nat.{_+_, _<_, _≤_};
+ghost use lib.ListN.{length, drop};
+ghost use Rattle.uslp_lines.specs.Lines.{lineLength};
 
 // What is kept from one line to the next.
 pub struct Session {
@@ -100,7 +101,7 @@ fn take_part(
 {
     let end = line_end(block, from);
     let mut more = session;
-    more.held = keep(&block[from..end], session.held, line);
+    more.held = put_text(&block[from..end], line, session.held);
     if end < block.len() {
         return Taken {
             next: end + 1,
@@ -116,7 +117,7 @@ fn take_part(
 // Where the next line feed stands, or the block's end.
 fn line_end(block: &[u8], from: usize) -> usize
     requires { ⌜ from ≤ length (now block) ⌝ }
-    ensures { λ r. ⌜ (from ≤ r) × (r ≤ length (now (block .entry))) ⌝ }
+    ensures { λ r. ⌜ (r ≡ from + lineLength (drop from (now (block .entry)))) × (from ≤ r) × (r ≤ length (now (block .entry))) ⌝ }
 {
     let mut i = from;
     while i < block.len() {
@@ -126,19 +127,6 @@ fn line_end(block: &[u8], from: usize) -> usize
         i += 1;
     }
     i
-}
-
-// Puts a part of a line behind what is held of it, and says how much is held then.
-fn keep(part: &[u8], held: usize, line: &mut [u8]) -> usize {
-    if held > line.len() {
-        return line.len();
-    }
-    let room = line.len() - held;
-    copy_octets(part, &mut line[held..]);
-    if part.len() > room {
-        return line.len();
-    }
-    held + part.len()
 }
 
 fn answer_line(

@@ -5,7 +5,6 @@ use Prim.Native.Nat.{ℕ, zero, suc, _+_, _-_, _^_, _/_, _<_, _≤_}
 use mathlib.Core.Bool.{Bool, false, cond}
 use mathlib.Core.List.{List, [], _∷_, _++_}
 use native.Mathlib.Omega.{arith}
-use native.Mathlib.Decide.{decLt}
 use borrow.Author.Tests.{lt-ltb, le-ltb}
 use lib.Dec.{ltb}
 use lib.ListN.{length, drop, length-append}
@@ -14,23 +13,9 @@ use Rattle.uslp_kinds.proofs.Outcomes.{done-one, passed, written-done}
 use Rattle.uslp_header.specs.Header.{lenFrame}
 use Rattle.uslp_reader.specs.Reader.{frameReading}
 use Rattle.uslp_reader.specs.declared.TransferFrame.{TransferFrame}
-use Rattle.uslp_text.specs.Text.{widthIn, width, decimal}
-use Rattle.uslp_text.proofs.Width.{width-last, width-more, tenth, length-digits}
+use Rattle.uslp_text.specs.Text.{decimal}
+use Rattle.uslp_text.proofs.Width.{decimal-short}
 use Rattle.uslp_listing.specs.Listing.{heading, word, line, summary, linesFrom, listing, room, listingOver, Appended}
-
--- a number of so many digits has no more
-width-le : (m k n : ℕ) → n < 10 ^ suc k → widthIn m n ≤ suc k
-unfolding widthIn
-width-le zero k n h = omega arith
-width-le (suc m) zero n h = omega (arith, width-last m n (omega arith))
-width-le (suc m) (suc k) n h =
-    elim (decLt n 10) [
-      | yes a ↦ omega (arith, width-last m n a)
-      | no a ↦ omega (arith, width-more m n (omega arith), width-le m k (n / 10) (tenth (suc k) n h))
-    ]
-
-decimal-short : (k n : ℕ) → n < 10 ^ suc k → length (decimal n) ≤ suc k
-decimal-short k n h = omega (arith, length-digits (width n) n, width-le 20 k n h)
 
 word-short : (k n : ℕ) → n < 10 ^ suc k → length (word n) ≤ 2 + k
 word-short k n h = omega (arith, decimal-short k n h, length-append (decimal n) (32 ∷ []))

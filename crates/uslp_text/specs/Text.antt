@@ -1,8 +1,11 @@
--- Decimal numerals as text: the first digit is the most significant, and none but 0 itself begins with a 0.
-use Prim.Native.Nat.{ℕ, zero, suc, _+_, _/_, _%_, _^_}
+-- Decimal numerals as text: the first digit is the most significant, and none but 0 itself begins with a 0. And texts in a buffer.
+use mathlib.Core.Path.{_≡_}
+use Prim.Native.Nat.{ℕ, zero, suc, _+_, _/_, _%_, _^_, min}
 use mathlib.Core.Bool.{cond}
-use mathlib.Core.List.{List, [], _∷_}
+use mathlib.Core.List.{List, [], _∷_, _++_}
 use lib.Dec.{ltb}
+use lib.ListN.{length, take, drop}
+use Rattle.uslp_octets.specs.Octets.{overlaid}
 
 -- the k low decimal digits of a number, as characters: 48 is 0
 abbrev pub digits : ℕ → ℕ → List ℕ
@@ -20,3 +23,8 @@ width n = widthIn 20 n
 -- the decimal numeral of a number
 abbrev pub decimal : ℕ → List ℕ
 decimal n = digits (width n) n
+
+-- a text told in a buffer s from a place on: as far as the buffer reaches it stands there, the octets around it stay, and `end` is the place behind it
+pub record Told (t : List ℕ) (at : ℕ) (s : List ℕ) (end : ℕ) (left : List ℕ) : Type 0 where
+  pub ends : end ≡ min (at + length t) (length s)
+  pub stands : left ≡ take at s ++ overlaid t (drop at s)

@@ -1,7 +1,8 @@
-// Decimal numerals as text.
+// Decimal numerals as text, and texts put one behind another into a buffer.
+use uslp_octets::copy_octets;
 ghost use mathlib.Core.Path.{_≡_};
 ghost use lib.ListN.{length};
-ghost use Rattle.uslp_text.specs.Text.{digits, width};
+ghost use Rattle.uslp_text.specs.Text.{digits, width, decimal, Told};
 
 // How many digits the decimal numeral of a number has.
 pub fn decimal_len(value: u64) -> usize
@@ -27,4 +28,29 @@ pub fn put_decimal(value: u64, to: &mut [u8])
         to[i] = 48 + (rest % 10) as u8;
         rest = rest / 10;
     }
+}
+
+// Puts a text into a buffer from a place on, as far as it reaches, and gives the place behind it.
+pub fn put_text(text: &[u8], out: &mut [u8], at: usize) -> usize
+    ensures { λ r. ⌜ Told (now (text .entry)) at (now (out .entry)) r (now (out .exit)) ⌝ }
+{
+    let len = out.len();
+    if at >= len {
+        return len;
+    }
+    copy_octets(text, &mut out[at..]);
+    if text.len() > len - at {
+        return len;
+    }
+    at + text.len()
+}
+
+// Puts a number's decimal numeral into a buffer, as a text.
+pub fn put_number(value: u64, out: &mut [u8], at: usize) -> usize
+    ensures { λ r. ⌜ Told (decimal value) at (now (out .entry)) r (now (out .exit)) ⌝ }
+{
+    let mut numeral = [0u8; 20];
+    let n = decimal_len(value);
+    put_decimal(value, &mut numeral[0..n]);
+    put_text(&numeral[0..n], out, at)
 }

@@ -7,14 +7,14 @@ use mathlib.Core.List.{List, [], _∷_, _++_}
 use native.Mathlib.Omega.{arith}
 use native.Mathlib.Numerals.{add-one}
 use native.Mathlib.Nat.{zero-add}
-use borrow.Author.Tests.{leb-true, ltb-false, lt-ltb, le-ltb}
+use borrow.Author.Tests.{leb-true, ltb-false, eqb-true, lt-ltb, le-ltb, eq-eqb}
 use lib.Dec.{ltb, leb, eqb}
 use lib.ListN.{length, take, drop, getD, set, drop-of-length-le}
 use lib.Seq.{paste, paste-suc, take-all}
 use Rattle.uslp_octets.specs.Octets.{overlaid}
 use Rattle.uslp_words.specs.declared.NumberAnswer.{NumberAnswer}
 use Rattle.uslp_words.specs.declared.NumberAnswer.the-variants.{Number, NotANumber}
-use Rattle.uslp_words.specs.Words.{isDecimal, allDecimal, digitsAfter, numberAfter, hexValue, octetsIn, hexDigit, hexOf}
+use Rattle.uslp_words.specs.Words.{isDecimal, allDecimal, digitsAfter, numberAfter, hexValue, octetsIn, hexDigit, hexOf, sameText}
 
 pub and-first : (a b : Bool) → a && b ≡ true → a ≡ true
 and-first true b e = refl
@@ -109,3 +109,22 @@ paste-target s d i h e =
     ap₂ (λ (a b : List ℕ). a ++ b)
     (ap (λ (n : ℕ). take n s) e)
     (drop-of-length-le d {i = 0 + i} (omega arith) ∙ sym (drop-of-length-le d {i = length s} (omega arith)))
+
+-- two texts that are compared: whether they are the same is what the comparison says
+pub same-refl : (s : List ℕ) → sameText s s ≡ true
+same-refl [] = refl
+same-refl (c ∷ s) = rw (eq-eqb c c refl) (same-refl s)
+
+pub same-true : (s t : List ℕ) → sameText s t ≡ true → s ≡ t
+same-true [] [] e = refl
+same-true [] (d ∷ t) e = cc
+same-true (c ∷ s) [] e = cc
+same-true (c ∷ s) (d ∷ t) e = ap₂ (λ (a : ℕ) (b : List ℕ). a ∷ b) (eqb-true c d (and-first (eqb c d) (sameText s t) e)) (same-true s t (and-second (eqb c d) (sameText s t) e))
+
+compared-at : (s t : List ℕ) (b : Bool) → sameText s t ≡ b → (s ≡ t → false ≡ true) → false ≡ sameText s t
+compared-at s t true e g = g (same-true s t e) ∙ sym e
+compared-at s t false e g = sym e
+
+pub compared : (s t : List ℕ) (r : Bool) → (r ≡ true → s ≡ t) → (s ≡ t → r ≡ true) → r ≡ sameText s t
+compared s t true f g = sym (ap (sameText s) (sym (f refl)) ∙ same-refl s)
+compared s t false f g = compared-at s t (sameText s t) refl g

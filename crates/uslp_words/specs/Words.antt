@@ -2,7 +2,7 @@
 use Prim.Native.Nat.{ℕ, suc, _+_, _*_, _-_, _/_, _%_, min}
 use mathlib.Core.Bool.{Bool, true, false, _&&_, _||_, not, cond}
 use mathlib.Core.List.{List, [], _∷_, _++_}
-use lib.ListN.{length, drop}
+use lib.ListN.{length, take, drop}
 use lib.Dec.{ltb, leb, eqb}
 use Rattle.uslp_words.specs.declared.NumberAnswer.{NumberAnswer}
 use Rattle.uslp_words.specs.declared.NumberAnswer.the-variants.{Number, NotANumber}
@@ -72,6 +72,11 @@ abbrev pub hexOf : List ℕ → List ℕ
 hexOf [] = []
 hexOf (o ∷ s) = hexDigit (o / 16) ∷ (hexDigit (o % 16) ∷ hexOf s)
 
+-- a dash stands for none
+abbrev pub octetsText : List ℕ → List ℕ
+octetsText [] = 45 ∷ []
+octetsText (o ∷ s) = hexOf (o ∷ s)
+
 -- space, and tab, line feed, form feed and carriage return, which are 9 to 13 but for 11
 abbrev pub isBlank : ℕ → Bool
 isBlank c = cond (eqb c 32) true (cond (eqb c 11) false (leb 9 c && leb c 13))
@@ -96,3 +101,14 @@ wordAt line from =
 -- past the line's end there is no more than at it
 abbrev pub wordFrom : List ℕ → ℕ → Word
 wordFrom line from = wordAt line (min from (length line))
+
+-- whether two texts are the same
+abbrev pub sameText : List ℕ → List ℕ → Bool
+sameText [] [] = true
+sameText [] (d ∷ t) = false
+sameText (c ∷ s) [] = false
+sameText (c ∷ s) (d ∷ t) = eqb c d && sameText s t
+
+-- the characters of a word
+abbrev pub textOf : List ℕ → Word → List ℕ
+textOf line w = take (w .end - w .start) (drop (w .start) line)

@@ -9,13 +9,11 @@ ghost use Rattle.uslp_octets.specs.Octets.{overlaid};
 ghost use Rattle.uslp_words.specs.Words.{isDecimal, numberIn, isHexDigit, hexValue, isHex, octetsIn, octetsAnswer, octetsLeft, hexDigit, hexOf};
 
 pub mod line;
-mod text;
+pub mod text;
 
 pub use line::Word;
 pub use line::next_word;
-pub use text::put_number;
 pub use text::put_octets;
-pub use text::put_text;
 
 pub enum NumberAnswer {
     Number(u64),

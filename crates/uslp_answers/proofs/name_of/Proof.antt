@@ -1,0 +1,197 @@
+-- `uslp_answers::name_of` meets its contract: the word of each arm is the name.
+-- Assumes nothing.
+use mathlib.Core.Path.{_≡_, sym, ap}
+use Rattle.uslp_words.specs.Words.{run}
+use Rattle.uslp_arguments.specs.Arguments.{troubleName}
+use Rattle.uslp_arguments.specs.declared.Trouble.{Trouble}
+use borrow.Author.Needs.{needs}
+use Rattle.uslp_answers.proofs.name_of.Statement.{statement}
+use Rattle.uslp_answers.proofs.name_of.Tie as tie
+
+by : {t u : Trouble} → t ≡ u → troubleName u ≡ troubleName t
+by e = sym (ap troubleName e)
+
+enum-told : tie.Need-enum-told
+enum-told c = search needs
+
+enum-told-2 : tie.Need-enum-told-2
+enum-told-2 c = search needs
+
+enum-told-3 : tie.Need-enum-told-3
+enum-told-3 c = search needs
+
+enum-told-4 : tie.Need-enum-told-4
+enum-told-4 c = search needs
+
+enum-told-5 : tie.Need-enum-told-5
+enum-told-5 c = search needs
+
+enum-told-6 : tie.Need-enum-told-6
+enum-told-6 c = search needs
+
+enum-told-7 : tie.Need-enum-told-7
+enum-told-7 c = search needs
+
+enum-told-8 : tie.Need-enum-told-8
+enum-told-8 c = search needs
+
+enum-told-9 : tie.Need-enum-told-9
+enum-told-9 c = search needs
+
+enum-told-10 : tie.Need-enum-told-10
+enum-told-10 c = search needs
+
+enum-told-11 : tie.Need-enum-told-11
+enum-told-11 c = search needs
+
+enum-told-12 : tie.Need-enum-told-12
+enum-told-12 c = search needs
+
+enum-told-13 : tie.Need-enum-told-13
+enum-told-13 c = search needs
+
+enum-told-14 : tie.Need-enum-told-14
+enum-told-14 c = search needs
+
+enum-told-15 : tie.Need-enum-told-15
+enum-told-15 c = search needs
+
+enum-told-16 : tie.Need-enum-told-16
+enum-told-16 c = search needs
+
+enum-told-17 : tie.Need-enum-told-17
+enum-told-17 c = search needs
+
+enum-told-18 : tie.Need-enum-told-18
+enum-told-18 c = search needs
+
+enum-told-19 : tie.Need-enum-told-19
+enum-told-19 c = search needs
+
+enum-told-20 : tie.Need-enum-told-20
+enum-told-20 c = search needs
+
+returns : tie.Need-returns
+unfolding run
+returns c = by (c .before .before .enum-told .given .1)
+
+returns-2 : tie.Need-returns-2
+unfolding run
+returns-2 c = by (c .before .before .enum-told2 .given .1)
+
+returns-3 : tie.Need-returns-3
+unfolding run
+returns-3 c = by (c .before .before .enum-told3 .given .1)
+
+returns-4 : tie.Need-returns-4
+unfolding run
+returns-4 c = by (c .before .before .enum-told4 .given .1)
+
+returns-5 : tie.Need-returns-5
+unfolding run
+returns-5 c = by (c .before .before .enum-told5 .given .1)
+
+returns-6 : tie.Need-returns-6
+unfolding run
+returns-6 c = by (c .before .before .enum-told6 .given .1)
+
+returns-7 : tie.Need-returns-7
+unfolding run
+returns-7 c = by (c .before .before .enum-told7 .given .1)
+
+returns-8 : tie.Need-returns-8
+unfolding run
+returns-8 c = by (c .before .before .enum-told8 .given .1)
+
+returns-9 : tie.Need-returns-9
+unfolding run
+returns-9 c = by (c .before .before .enum-told9 .given .1)
+
+returns-10 : tie.Need-returns-10
+unfolding run
+returns-10 c = by (c .before .before .enum-told10 .given .1)
+
+returns-11 : tie.Need-returns-11
+unfolding run
+returns-11 c = by (c .before .before .enum-told11 .given .1)
+
+returns-12 : tie.Need-returns-12
+unfolding run
+returns-12 c = by (c .before .before .enum-told12 .given .1)
+
+returns-13 : tie.Need-returns-13
+unfolding run
+returns-13 c = by (c .before .before .enum-told13 .given .1)
+
+returns-14 : tie.Need-returns-14
+unfolding run
+returns-14 c = by (c .before .before .enum-told14 .given .1)
+
+returns-15 : tie.Need-returns-15
+unfolding run
+returns-15 c = by (c .before .before .enum-told15 .given .1)
+
+returns-16 : tie.Need-returns-16
+unfolding run
+returns-16 c = by (c .before .before .enum-told16 .given .1)
+
+returns-17 : tie.Need-returns-17
+unfolding run
+returns-17 c = by (c .before .before .enum-told17 .given .1)
+
+returns-18 : tie.Need-returns-18
+unfolding run
+returns-18 c = by (c .before .before .enum-told18 .given .1)
+
+returns-19 : tie.Need-returns-19
+unfolding run
+returns-19 c = by (c .before .before .enum-told19 .given .1)
+
+returns-20 : tie.Need-returns-20
+unfolding run
+returns-20 c = by (c .before .before .enum-told20 .given .1)
+
+pub name-of-spec : {M : Type 1} → statement M
+name-of-spec =
+    tie.close
+    (tie.spec
+    enum-told
+    enum-told-2
+    enum-told-3
+    enum-told-4
+    enum-told-5
+    enum-told-6
+    enum-told-7
+    enum-told-8
+    enum-told-9
+    enum-told-10
+    enum-told-11
+    enum-told-12
+    enum-told-13
+    enum-told-14
+    enum-told-15
+    enum-told-16
+    enum-told-17
+    enum-told-18
+    enum-told-19
+    enum-told-20
+    returns
+    returns-2
+    returns-3
+    returns-4
+    returns-5
+    returns-6
+    returns-7
+    returns-8
+    returns-9
+    returns-10
+    returns-11
+    returns-12
+    returns-13
+    returns-14
+    returns-15
+    returns-16
+    returns-17
+    returns-18
+    returns-19
+    returns-20)

@@ -1,0 +1,14 @@
+-- `uslp_arguments::headers::ocf_of` meets its contract.
+-- Assumes nothing.
+use borrow.Author.Needs.{needs}
+use Rattle.uslp_arguments.proofs.headers.ocf_of.Statement.{statement}
+use Rattle.uslp_arguments.proofs.headers.ocf_of.Tie as tie
+
+returns : tie.Need-returns
+returns c = rw (c .if1 .taken)
+
+returns-2 : tie.Need-returns-2
+returns-2 c = search needs
+
+pub ocf-of-spec : {M : Type 1} → statement M
+ocf-of-spec = tie.close (tie.spec returns returns-2)

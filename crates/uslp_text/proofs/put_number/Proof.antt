@@ -1,0 +1,89 @@
+-- `uslp_text::put_number` meets its contract: twenty octets hold the numeral, which is put as a text.
+-- Assumes nothing.
+use mathlib.Core.Path.{_≡_, subst, ap, sym, _∙_}
+use Prim.Native.Nat.{ℕ, _-_, _^_, _<_, _≤_}
+use mathlib.Core.List.{List}
+use native.Mathlib.Omega.{arith}
+use lib.ListN.{length, take, drop, replicate, length-append}
+use lib.Seq.{length-take-le, take-at}
+use Rattle.uslp_text.specs.Text.{digits, width, decimal, Told}
+use Rattle.uslp_text.proofs.Width.{length-digits, decimal-short}
+use borrow.Author.Needs.{needs}
+use Rattle.uslp_text.proofs.put_number.Statement.{statement}
+use Rattle.uslp_text.proofs.put_number.Tie as tie
+
+-- a number of 64 bits has twenty digits at most
+short : (n : ℕ) → n < 2 ^ 64 → width n ≤ 20
+short n h = omega (arith, decimal-short 19 n (omega arith), length-digits (width n) n)
+
+-- the octets before the numeral stands in them
+abbrev blank : List ℕ
+blank = replicate 20 0
+
+decimal-len-requires : tie.Need-decimal-len-requires
+decimal-len-requires c κs = search needs
+
+sub-put-decimal : tie.Need-sub-put-decimal
+sub-put-decimal c = search needs
+
+part-numeral-start : tie.Need-part-numeral-start
+part-numeral-start c = search needs
+
+part-numeral-end : tie.Need-part-numeral-end
+part-numeral-end c = omega (arith, c .decimal-len .ensures, short (c .before .before .args .value) (omega (arith, c .before .before .fits .value)))
+
+-- what fills the part is the numeral
+numeral : (d : tie.After-put-decimal) → d .put-decimal .last .1 .0 ≡ decimal (d .before .before .before .before .args .value)
+numeral d =
+    let v = d .before .before .before .before .args .value in
+    let w = d .before .before .decimal-len in
+    let h = short v (omega (arith, d .before .before .before .before .fits .value)) in
+    let long : length (take (w .result - 0) blank) ≡ width v = omega (arith, w .ensures, length-take-le (w .result - 0) blank (omega (arith, w .ensures))) in
+    d .put-decimal .ensures ∙ ap (λ (k : ℕ). digits k v) long
+
+put-decimal-requires : tie.Need-put-decimal-requires
+put-decimal-requires c κs = search needs
+
+sub-put-text : tie.Need-sub-put-text
+sub-put-text c = search needs
+
+part-put-text-start : tie.Need-part-put-text-start
+part-put-text-start c = search needs
+
+part-put-text-end : tie.Need-part-put-text-end
+part-put-text-end c =
+    let d = c .before .before in
+    let v = d .before .before .before .before .args .value in
+    let n = d .before .before .decimal-len in
+    omega (arith, length-append (d .put-decimal .last .1 .0) (drop (n .result - 0) blank), ap length (numeral d), length-digits (width v) v, n .ensures)
+
+put-text-requires : tie.Need-put-text-requires
+put-text-requires c κs = search needs
+
+same-length : tie.Need-same-length
+same-length c = search needs
+
+returns : tie.Need-returns
+returns c =
+    let p = c .before .before in
+    let d = p .before .before .before .before .before in
+    let a = d .before .before .before .before .args in
+    let n = d .before .before .decimal-len .result in
+    let long : length (d .put-decimal .last .1 .0) ≡ n = ap length (numeral d) ∙ length-digits (width (a .value)) (a .value) ∙ sym (d .before .before .decimal-len .ensures) in
+    subst (λ (t : List ℕ). Told t (a .at) (a .out .now) (p .put-text .result) (p .put-text .last .1 .0)) (take-at (d .put-decimal .last .1 .0) _ (n - 0) (omega (arith, long)) ∙ numeral d) (p .put-text .ensures)
+
+pub put-number-spec : {M : Type 1} → statement M
+put-number-spec =
+    tie.close
+    (tie.spec
+    decimal-len-requires
+    sub-put-decimal
+    part-numeral-start
+    part-numeral-end
+    put-decimal-requires
+    sub-put-text
+    part-put-text-start
+    part-put-text-end
+    put-text-requires
+    same-length
+    returns)
