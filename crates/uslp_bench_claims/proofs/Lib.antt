@@ -1,0 +1,3 @@
+pub mod OfArguments
+pub mod OfAnswers
+pub mod OfCommands
