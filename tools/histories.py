@@ -184,7 +184,7 @@ def main():
     out = None
     if words and words[0] == "--write":
         out, words = words[1], words[2:]
-    if not words:
+    if not words or words[0].startswith("-"):
         sys.exit(__doc__)
     program = words[0]
     many, frames, seed = (int(w) for w in (words[1:] + ["100", "1000", "1"][len(words) - 1:]))

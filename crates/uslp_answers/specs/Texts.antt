@@ -10,7 +10,7 @@ use Rattle.uslp_kinds.specs.declared.OperationalControlField.the-variants as co
 use Rattle.uslp_header.specs.Header.{flag}
 use Rattle.uslp_header.specs.declared.PrimaryHeader.{PrimaryHeader}
 use Rattle.uslp_field.specs.declared.TransferFrameDataFieldHeader.{TransferFrameDataFieldHeader}
-use Rattle.uslp_text.specs.Text.{decimal}
+use Rattle.uslp_text.specs.Text.{text, decimal}
 use Rattle.uslp_words.specs.Words.{octetsText}
 use Rattle.uslp_arguments.specs.Arguments.{troubleName}
 use Rattle.uslp_arguments.specs.declared.Trouble.{Trouble}
@@ -18,14 +18,14 @@ use Rattle.uslp_answers.specs.declared.Carried.{Carried}
 use Rattle.uslp_answers.specs.declared.Carried.the-variants.{Nothing, One, Two}
 
 abbrev pub fieldText : ℕ → List ℕ
-fieldText n = 32 ∷ decimal n
+fieldText n = text " " ++ decimal n
 
 abbrev pub fieldsText : List ℕ → List ℕ
 fieldsText [] = []
 fieldsText (n ∷ ns) = fieldText n ++ fieldsText ns
 
 abbrev pub dataText : List ℕ → List ℕ
-dataText s = 32 ∷ octetsText s
+dataText s = text " " ++ octetsText s
 
 -- a refusal is document 01's number and what it carries
 abbrev pub refusalText : ℕ → List ℕ → List ℕ
@@ -33,7 +33,7 @@ refusalText k vs = decimal k ++ fieldsText vs
 
 -- 0 and what was asked for, or the refusal
 abbrev pub answerText : {A : Type 0} → (A → List ℕ) → Outcome A → List ℕ
-answerText say (done x) = 48 ∷ say x
+answerText say (done x) = text "0" ++ say x
 answerText say (refused k vs) = refusalText k vs
 
 -- what was written: how many octets, and the whole buffer
@@ -56,9 +56,8 @@ headerText h =
     ∷ h .«vc_frame_count»
     ∷ [])
 
--- a blank and a dash stand for none
 abbrev pub noneText : List ℕ
-noneText = 32 ∷ 45 ∷ []
+noneText = text " -"
 
 abbrev pub pointerText : FhpOrLvo → List ℕ
 pointerText pointer.Absent = noneText
@@ -74,7 +73,7 @@ ocfText (control.Present n) = fieldText n
 
 -- `bad`, and what is
 abbrev pub troubleText : Trouble → List ℕ
-troubleText t = 98 ∷ 97 ∷ 100 ∷ 32 ∷ troubleName t
+troubleText t = text "bad " ++ troubleName t
 
 abbrev pub carriedIn : Carried → List ℕ
 carriedIn Nothing = []

@@ -4,6 +4,7 @@ use mathlib.Core.Bool.{Bool, true, false, not, cond}
 use mathlib.Core.List.{List, [], _∷_}
 use lib.Dec.{leb, eqb}
 use lib.ListN.{length}
+use Rattle.uslp_text.specs.Text.{text}
 use Rattle.uslp_words.specs.Words.{wordFrom, textOf, sameText, numberIn, octetsAnswer, octetsLeft}
 use Rattle.uslp_words.specs.declared.NumberAnswer.{NumberAnswer}
 use Rattle.uslp_words.specs.declared.NumberAnswer.the-variants.{Number, NotANumber}
@@ -18,28 +19,28 @@ use Rattle.uslp_arguments.specs.declared.FlagWord.{FlagWord}
 use Rattle.uslp_arguments.specs.declared.OptionalWord.{OptionalWord}
 use Rattle.uslp_arguments.specs.declared.OctetsWord.{OctetsWord}
 
--- what did not fit, by its name: nothing has no name; the others are `command`, `arguments`, and the places of a command's line
+-- what did not fit, by its name; nothing has none
 abbrev pub troubleName : Trouble → List ℕ
 troubleName Nothing = []
-troubleName Command = 99 ∷ 111 ∷ 109 ∷ 109 ∷ 97 ∷ 110 ∷ 100 ∷ []
-troubleName Arguments = 97 ∷ 114 ∷ 103 ∷ 117 ∷ 109 ∷ 101 ∷ 110 ∷ 116 ∷ 115 ∷ []
-troubleName Hex = 104 ∷ 101 ∷ 120 ∷ []
-troubleName Fecf = 102 ∷ 101 ∷ 99 ∷ 102 ∷ []
-troubleName Scid = 115 ∷ 99 ∷ 105 ∷ 100 ∷ []
-troubleName Dest = 100 ∷ 101 ∷ 115 ∷ 116 ∷ []
-troubleName Vc = 118 ∷ 99 ∷ []
-troubleName Map = 109 ∷ 97 ∷ 112 ∷ []
-troubleName Total = 116 ∷ 111 ∷ 116 ∷ 97 ∷ 108 ∷ []
-troubleName Bypass = 98 ∷ 121 ∷ 112 ∷ 97 ∷ 115 ∷ 115 ∷ []
-troubleName Pcc = 112 ∷ 99 ∷ 99 ∷ []
-troubleName OcfFlag = 111 ∷ 99 ∷ 102 ∷ 102 ∷ 108 ∷ 97 ∷ 103 ∷ []
-troubleName Width = 119 ∷ 105 ∷ 100 ∷ 116 ∷ 104 ∷ []
-troubleName Count = 99 ∷ 111 ∷ 117 ∷ 110 ∷ 116 ∷ []
-troubleName Rule = 114 ∷ 117 ∷ 108 ∷ 101 ∷ []
-troubleName Pid = 112 ∷ 105 ∷ 100 ∷ []
-troubleName Ptr = 112 ∷ 116 ∷ 114 ∷ []
-troubleName Ocf = 111 ∷ 99 ∷ 102 ∷ []
-troubleName BufLen = 98 ∷ 117 ∷ 102 ∷ 108 ∷ 101 ∷ 110 ∷ []
+troubleName Command = text "command"
+troubleName Arguments = text "arguments"
+troubleName Hex = text "hex"
+troubleName Fecf = text "fecf"
+troubleName Scid = text "scid"
+troubleName Dest = text "dest"
+troubleName Vc = text "vc"
+troubleName Map = text "map"
+troubleName Total = text "total"
+troubleName Bypass = text "bypass"
+troubleName Pcc = text "pcc"
+troubleName OcfFlag = text "ocfflag"
+troubleName Width = text "width"
+troubleName Count = text "count"
+troubleName Rule = text "rule"
+troubleName Pid = text "pid"
+troubleName Ptr = text "ptr"
+troubleName Ocf = text "ocf"
+troubleName BufLen = text "buflen"
 
 abbrev pub isTrouble : Trouble → Bool
 isTrouble t = not (eqb (length (troubleName t)) 0)
@@ -83,16 +84,16 @@ numberWord line rest limit name = numberUpTo limit name (numberIn (textNext line
 unfoldable pub flagWord : List ℕ → Rest → Trouble → FlagWord
 flagWord line rest name =
     cond
-    (sameText (textNext line rest) (48 ∷ []))
+    (sameText (textNext line rest) (text "0"))
     (record { value = false; rest = behind line rest })
     (cond
-    (sameText (textNext line rest) (49 ∷ []))
+    (sameText (textNext line rest) (text "1"))
     (record { value = true; rest = behind line rest })
     (record { value = false; rest = troubledBy name (behind line rest) }))
 
 -- a dash stands for none
 abbrev pub isDash : List ℕ → Bool
-isDash text = sameText text (45 ∷ [])
+isDash word = sameText word (text "-")
 
 abbrev pub someNumber : NumberWord → OptionalWord
 someNumber n = record { present = true; value = n .value; rest = n .rest }

@@ -15,7 +15,7 @@ use Rattle.uslp_arguments.specs.declared.Rest.{Rest}
 use Rattle.uslp_answers.specs.Texts.{writtenText}
 use Rattle.uslp_bench_frames.specs.Commands.{crcText, hrText, drText, frText, buffer, headerWritten, leftBy}
 use Rattle.uslp_bench_channels.specs.Commands.{textUnless}
-use Rattle.uslp_text.specs.Text.{Told}
+use Rattle.uslp_text.specs.Text.{text, Told}
 use Rattle.uslp_bench.specs.declared.command.OctetsCommand.{OctetsCommand}
 use Rattle.uslp_bench.specs.declared.command.OctetsCommand.the-variants.{Crc, Hr, Dr}
 use Rattle.uslp_bench.specs.declared.command.FrameCommand.the-variants.{Octets, Fr, Hw, Write}
@@ -23,26 +23,26 @@ use Rattle.uslp_bench.specs.declared.command.ChannelCommand.the-variants
 use Rattle.uslp_bench.specs.declared.command.Command.{Command}
 use Rattle.uslp_bench.specs.declared.command.Command.the-variants.{Frame, Channel, Unknown}
 
--- `crc`, `hr`, `dr`, `fr`, `hw`, `fw`, `rw`
+-- the commands on octets and frames
 abbrev pub frameNames : List ℕ → List (Bool × Command)
 frameNames w =
-    (sameText w (99 ∷ 114 ∷ 99 ∷ []), Frame (Octets Crc))
-    ∷ (sameText w (104 ∷ 114 ∷ []), Frame (Octets Hr))
-    ∷ (sameText w (100 ∷ 114 ∷ []), Frame (Octets Dr))
-    ∷ (sameText w (102 ∷ 114 ∷ []), Frame Fr)
-    ∷ (sameText w (104 ∷ 119 ∷ []), Frame Hw)
-    ∷ (sameText w (102 ∷ 119 ∷ []), Frame (Write false))
-    ∷ (sameText w (114 ∷ 119 ∷ []), Frame (Write true))
+    (sameText w (text "crc"), Frame (Octets Crc))
+    ∷ (sameText w (text "hr"), Frame (Octets Hr))
+    ∷ (sameText w (text "dr"), Frame (Octets Dr))
+    ∷ (sameText w (text "fr"), Frame Fr)
+    ∷ (sameText w (text "hw"), Frame Hw)
+    ∷ (sameText w (text "fw"), Frame (Write false))
+    ∷ (sameText w (text "rw"), Frame (Write true))
     ∷ []
 
--- `open`, `close`, `hear`, `show`, `total`
+-- the commands on the record
 abbrev pub channelNames : List ℕ → List (Bool × Command)
 channelNames w =
-    (sameText w (111 ∷ 112 ∷ 101 ∷ 110 ∷ []), Channel Open)
-    ∷ (sameText w (99 ∷ 108 ∷ 111 ∷ 115 ∷ 101 ∷ []), Channel Close)
-    ∷ (sameText w (104 ∷ 101 ∷ 97 ∷ 114 ∷ []), Channel Hear)
-    ∷ (sameText w (115 ∷ 104 ∷ 111 ∷ 119 ∷ []), Channel Show)
-    ∷ (sameText w (116 ∷ 111 ∷ 116 ∷ 97 ∷ 108 ∷ []), Channel Total)
+    (sameText w (text "open"), Channel Open)
+    ∷ (sameText w (text "close"), Channel Close)
+    ∷ (sameText w (text "hear"), Channel Hear)
+    ∷ (sameText w (text "show"), Channel Show)
+    ∷ (sameText w (text "total"), Channel Total)
     ∷ []
 
 unfoldable pub commandIn : List ℕ → Command

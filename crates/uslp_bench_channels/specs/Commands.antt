@@ -11,6 +11,7 @@ use Rattle.uslp_record.specs.declared.ChannelRecord.{ChannelRecord}
 use Rattle.uslp_channel.specs.Channel.{frameHearing}
 use Rattle.uslp_channel.specs.declared.FrameArrival.{FrameArrival}
 use Rattle.uslp_channel.specs.declared.FrameArrival.the-variants.{New, Repeat, Late}
+use Rattle.uslp_text.specs.Text.{text}
 use Rattle.uslp_arguments.specs.Arguments.{isTrouble, endedAt, numberWord, flagWord, octetsWord, octetsAfter}
 use Rattle.uslp_arguments.specs.Headers.{largest, octetOf}
 use Rattle.uslp_arguments.specs.declared.Trouble.{Trouble}
@@ -57,9 +58,9 @@ closeReply line rest r =
 
 -- `NEW`, the gap and the data, or `REPEAT`, or `LATE`, of a frame in these octets
 abbrev pub arrivalText : List ℕ → FrameArrival → List ℕ
-arrivalText s (New gap x) = (32 ∷ 78 ∷ 69 ∷ 87 ∷ []) ++ (fieldText gap ++ dataText (contentsIn x s))
-arrivalText s Repeat = 32 ∷ 82 ∷ 69 ∷ 80 ∷ 69 ∷ 65 ∷ 84 ∷ []
-arrivalText s Late = 32 ∷ 76 ∷ 65 ∷ 84 ∷ 69 ∷ []
+arrivalText s (New gap x) = text " NEW" ++ (fieldText gap ++ dataText (contentsIn x s))
+arrivalText s Repeat = text " REPEAT"
+arrivalText s Late = text " LATE"
 
 abbrev pub hearOctets : List ℕ → Bool → ChannelRecord → Reply
 hearOctets s fecf r = keptReply (arrivalText s) (frameHearing r s fecf)
@@ -77,7 +78,7 @@ hearLeft line rest d = octetsAfter line (flagWord line rest Fecf .rest) d
 -- the width and `unheard`, or the width and the totals
 abbrev pub stateText : SlotState → List ℕ
 stateText Closed = []
-stateText (Opened k width) = fieldText width ++ (32 ∷ 117 ∷ 110 ∷ 104 ∷ 101 ∷ 97 ∷ 114 ∷ 100 ∷ [])
+stateText (Opened k width) = fieldText width ++ text " unheard"
 stateText (Heard k width t) = fieldsText (width ∷ t .last ∷ t .«handed_on» ∷ t .missing ∷ t .repeats ∷ t .late ∷ [])
 
 -- show S C

@@ -23,10 +23,10 @@ use uslp_record::TotalAnswer;
 use uslp_record::Totals;
 use uslp_text::put_text;
 ghost use mathlib.Core.Path.{_≡_};
-ghost use mathlib.Core.List.{[], _∷_};
+ghost use mathlib.Core.List.{[], _∷_, _++_};
 ghost use Rattle.uslp_record.specs.Record.{paperDone};
 ghost use Rattle.uslp_channel.specs.Channel.{paperFrameHeard};
-ghost use Rattle.uslp_text.specs.Text.{Told};
+ghost use Rattle.uslp_text.specs.Text.{text, Told};
 ghost use Rattle.uslp_answers.specs.Texts.{fieldsText, answerText};
 ghost use Rattle.uslp_bench_channels.specs.Commands.{channelWords, openReply, closeReply, arrivalText, hearOctets, hearReply, hearLeft, stateText, showText, totalText};
 
@@ -161,7 +161,7 @@ fn put_heard(answer: FrameHeard, octets: &[u8], out: &mut [u8]) -> usize
 }
 
 fn put_arrival(arrival: FrameArrival, octets: &[u8], out: &mut [u8]) -> usize
-    ensures { λ r. ⌜ Told (48 ∷ arrivalText (now (octets .entry)) arrival) 0 (now (out .entry)) r (now (out .exit)) ⌝ }
+    ensures { λ r. ⌜ Told (text "0" ++ arrivalText (now (octets .entry)) arrival) 0 (now (out .entry)) r (now (out .exit)) ⌝ }
 {
     match arrival {
         FrameArrival::New { gap, frame } => {
@@ -192,7 +192,7 @@ pub fn show(line: &[u8], rest: Rest, channels: ChannelRecord, out: &mut [u8]) ->
 }
 
 fn put_state(state: SlotState, out: &mut [u8]) -> usize
-    ensures { λ r. ⌜ Told (48 ∷ stateText state) 0 (now (out .entry)) r (now (out .exit)) ⌝ }
+    ensures { λ r. ⌜ Told (text "0" ++ stateText state) 0 (now (out .entry)) r (now (out .exit)) ⌝ }
 {
     match state {
         // no answer has a closed slot
@@ -211,7 +211,7 @@ fn put_state(state: SlotState, out: &mut [u8]) -> usize
 }
 
 fn put_totals(width: u8, totals: Totals, out: &mut [u8]) -> usize
-    ensures { λ r. ⌜ Told (48 ∷ fieldsText (width ∷ totals .last ∷ totals .«handed_on» ∷ totals .missing ∷ totals .repeats ∷ totals .late ∷ [])) 0 (now (out .entry)) r (now (out .exit)) ⌝ }
+    ensures { λ r. ⌜ Told (text "0" ++ fieldsText (width ∷ totals .last ∷ totals .«handed_on» ∷ totals .missing ∷ totals .repeats ∷ totals .late ∷ [])) 0 (now (out .entry)) r (now (out .exit)) ⌝ }
 {
     let a = put_text(b"0", out, 0);
     let fields = [

@@ -13,9 +13,9 @@ use uslp_reader::FrameAnswer;
 use uslp_reader::TransferFrame;
 use uslp_text::put_number;
 use uslp_text::put_text;
-ghost use Rattle.uslp_text.specs.Text.{Told};
+ghost use Rattle.uslp_text.specs.Text.{text, Told};
 ghost use Rattle.uslp_bench_frames.specs.Commands.{crcText, hrText, drText, frameText, frText};
-ghost use mathlib.Core.List.{_∷_};
+ghost use mathlib.Core.List.{_++_};
 
 pub fn crc(octets: &[u8], out: &mut [u8]) -> usize
     ensures { λ r. ⌜ Told (crcText (now (octets .entry))) 0 (now (out .entry)) r (now (out .exit)) ⌝ }
@@ -57,7 +57,7 @@ pub fn fr(octets: &[u8], has_fecf: bool, out: &mut [u8]) -> usize
 }
 
 fn put_frame(frame: TransferFrame, octets: &[u8], out: &mut [u8]) -> usize
-    ensures { λ r. ⌜ Told (48 ∷ frameText (now (octets .entry)) frame) 0 (now (out .entry)) r (now (out .exit)) ⌝ }
+    ensures { λ r. ⌜ Told (text "0" ++ frameText (now (octets .entry)) frame) 0 (now (out .entry)) r (now (out .exit)) ⌝ }
 {
     let header = frame.primary_header;
     let field = frame.data_field_header;

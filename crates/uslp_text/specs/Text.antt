@@ -1,13 +1,21 @@
--- Decimal numerals as text: the first digit is the most significant, and none but 0 itself begins with a 0. And texts in a buffer.
+-- Texts and decimal numerals as numbers of characters, and texts in a buffer.
 use mathlib.Core.Path.{_≡_}
 use Prim.Native.Nat.{ℕ, zero, suc, _+_, _/_, _%_, _^_, min}
 use mathlib.Core.Bool.{cond}
 use mathlib.Core.List.{List, [], _∷_, _++_}
+use Prim.Native.Char.{code}
+use Prim.Native.String.{String}
+use Prim.Native.String as string
 use lib.Dec.{ltb}
 use lib.ListN.{length, take, drop}
 use Rattle.uslp_octets.specs.Octets.{overlaid}
 
--- the k low decimal digits of a number, as characters: 48 is 0
+-- the numbers of a text's characters
+abbrev pub text : String → List ℕ
+text string.[] = []
+text (string._∷_ c s) = code c ∷ text s
+
+-- the k low decimal digits of a number, as characters: 48 is 0. The first is the most significant
 abbrev pub digits : ℕ → ℕ → List ℕ
 digits zero n = []
 digits (suc k) n = (48 + n / 10 ^ k % 10) ∷ digits k n
@@ -20,7 +28,7 @@ widthIn (suc k) n = cond (ltb n 10) 1 (suc (widthIn k (n / 10)))
 abbrev pub width : ℕ → ℕ
 width n = widthIn 20 n
 
--- the decimal numeral of a number
+-- the decimal numeral of a number; none but that of 0 begins with a 0
 abbrev pub decimal : ℕ → List ℕ
 decimal n = digits (width n) n
 

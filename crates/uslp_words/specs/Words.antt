@@ -4,6 +4,7 @@ use mathlib.Core.Bool.{Bool, true, false, _&&_, _||_, not, cond}
 use mathlib.Core.List.{List, [], _∷_, _++_}
 use lib.ListN.{length, take, drop}
 use lib.Dec.{ltb, leb, eqb}
+use Rattle.uslp_text.specs.Text.{text}
 use Rattle.uslp_words.specs.declared.NumberAnswer.{NumberAnswer}
 use Rattle.uslp_words.specs.declared.NumberAnswer.the-variants.{Number, NotANumber}
 use Rattle.uslp_words.specs.declared.line.Word.{Word}
@@ -74,7 +75,7 @@ hexOf (o ∷ s) = hexDigit (o / 16) ∷ (hexDigit (o % 16) ∷ hexOf s)
 
 -- a dash stands for none
 abbrev pub octetsText : List ℕ → List ℕ
-octetsText [] = 45 ∷ []
+octetsText [] = text "-"
 octetsText (o ∷ s) = hexOf (o ∷ s)
 
 -- space, and tab, line feed, form feed and carriage return, which are 9 to 13 but for 11
