@@ -1,3 +1,2 @@
-pub mod Appending
 pub mod Lines
 pub mod Passing

@@ -1,7 +1,7 @@
 -- What the definitions of the listing say, path by path, and how long its lines are.
 -- Assumes nothing.
-use mathlib.Core.Path.{_≡_, refl, ap, ap₂, sym, _∙_}
-use Prim.Native.Nat.{ℕ, zero, suc, _+_, _-_, _^_, _/_, _<_, _≤_}
+use mathlib.Core.Path.{_≡_, refl, ap, ap₂, sym}
+use Prim.Native.Nat.{ℕ, zero, suc, _+_, _-_, _^_, _<_, _≤_}
 use mathlib.Core.Bool.{Bool, false, cond}
 use mathlib.Core.List.{List, [], _∷_, _++_}
 use native.Mathlib.Omega.{arith}
@@ -13,37 +13,36 @@ use Rattle.uslp_kinds.proofs.Outcomes.{done-one, passed, written-done}
 use Rattle.uslp_header.specs.Header.{lenFrame}
 use Rattle.uslp_reader.specs.Reader.{frameReading}
 use Rattle.uslp_reader.specs.declared.TransferFrame.{TransferFrame}
-use Rattle.uslp_text.specs.Text.{decimal}
+use Rattle.uslp_text.specs.Text.{decimal, Told}
 use Rattle.uslp_text.proofs.Width.{decimal-short}
-use Rattle.uslp_listing.specs.Listing.{heading, word, line, summary, linesFrom, listing, room, listingOver, Appended}
+use Rattle.uslp_text.proofs.Telling.{told-whole}
+use Rattle.uslp_listing.specs.Listing.{heading, word, line, summary, linesFrom, listing, room, listingOver}
 
 word-short : (k n : ℕ) → n < 10 ^ suc k → length (word n) ≤ 2 + k
 word-short k n h = omega (arith, decimal-short k n h, length-append (decimal n) (32 ∷ []))
 
--- what the machine's numbers hold, and a frame in so many octets
+-- what the machine's numbers hold
 pub record Small (x : TransferFrame) : Type 0 where
-  pub long : lenFrame (x .«primary_header») ≤ 65536
   pub spacecraft : x .«primary_header» .«spacecraft_id» < 65536
   pub channel : x .«primary_header» .«vc_id» < 256
   pub map : x .«primary_header» .«map_id» < 256
   pub count : x .«primary_header» .«vc_frame_count» < 2 ^ 64
-  pub contents : x .«data_len» ≤ 65536
 
 -- seven words
 sum-seven : (a b c d e f g : List ℕ) → length (a ++ (b ++ (c ++ (d ++ (e ++ (f ++ g)))))) ≡ length a + length b + length c + length d + length e + length f + length g
 sum-seven a b c d e f g = simp length-append (omega arith)
 
-pub line-short : (place : ℕ) (x : TransferFrame) → place ≤ 65536 → Small x → length (line place x) ≤ 64
-line-short place x h k =
+pub line-short : (place : ℕ) (x : TransferFrame) → place ≤ 65536 → lenFrame (x .«primary_header») ≤ 65536 → x .«data_len» ≤ 65536 → Small x → length (line place x) ≤ 64
+line-short place x h long contents k =
     let hd = x .«primary_header» in
     let sum = sum-seven (word place) (word (lenFrame hd)) (word (hd .«spacecraft_id»)) (word (hd .«vc_id»)) (word (hd .«map_id»)) (word (hd .«vc_frame_count»)) (decimal (x .«data_len») ++ (10 ∷ [])) in
     let a = word-short 4 place (omega arith) in
-    let b = word-short 4 (lenFrame hd) (omega (arith, k .long)) in
+    let b = word-short 4 (lenFrame hd) (omega arith) in
     let c = word-short 4 (hd .«spacecraft_id») (omega (arith, k .spacecraft)) in
     let d = word-short 2 (hd .«vc_id») (omega (arith, k .channel)) in
     let e = word-short 2 (hd .«map_id») (omega (arith, k .map)) in
     let f = word-short 19 (hd .«vc_frame_count») (omega (arith, k .count)) in
-    let g = decimal-short 4 (x .«data_len») (omega (arith, k .contents)) in
+    let g = decimal-short 4 (x .«data_len») (omega arith) in
     let z = length-append (decimal (x .«data_len»)) (10 ∷ []) in
     omega arith
 
@@ -90,13 +89,11 @@ module _ (s t : List ℕ) where
   unfolding listingOver
   over-short h = simp (lt-ltb (length t) room h)
 
-  pub over-done : {end : ℕ} {text left : List ℕ} → room ≤ length t → listing s ≡ text → Appended text 0 t end left → leaving (done end) left ≡ listingOver s t
+  pub over-done : {end : ℕ} {text left : List ℕ} → room ≤ length t → listing s ≡ text → length text ≤ room → Told text 0 t end left → leaving (done end) left ≡ listingOver s t
   unfolding listingOver
-  over-done {end} {text} {left} h is p =
-      let z : 0 + length text ≡ length text = omega arith in
-      let e : end ≡ length text = omega (arith, p .ends) in
-      let l : left ≡ text ++ drop (length text) t = p .stands ∙ ap (λ (n : ℕ). text ++ drop n t) z in
-      simp (le-ltb (length t) room h, is) (ap₂ (λ (n : ℕ) (x : List ℕ). leaving (done n) x) e l)
+  over-done h is fits p =
+      let w = told-whole (omega arith) p in
+      simp (le-ltb (length t) room h, is) (ap₂ (λ (n : ℕ) (x : List ℕ). leaving (done n) x) (w .0) (w .1))
 
   -- a text that was written lies in the buffer
   pub over-inside : {end : ℕ} {left : List ℕ} → leaving (done end) left ≡ listingOver s t → end ≤ length left

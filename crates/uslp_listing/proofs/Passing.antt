@@ -1,13 +1,12 @@
 -- The loop over the frames: what holds at a place, and how a frame, a refusal and the end carry it on.
 -- Assumes nothing.
-use mathlib.Core.Path.{_≡_, refl, ap, sym, _∙_, subst}
-use Prim.Native.Nat.{ℕ, suc, _+_, _-_, _*_, _<_, _≤_}
+use mathlib.Core.Path.{_≡_, refl, ap, sym, _∙_}
+use Prim.Native.Nat.{ℕ, _+_, _-_, _*_, _<_, _≤_}
 use mathlib.Core.Bool.{Bool, true, false, cond}
-use mathlib.Core.List.{List, [], _++_, append-assoc}
+use mathlib.Core.List.{List, _++_}
 use native.Mathlib.Omega.{arith}
-use native.Mathlib.Nat.{add-zero}
 use native.Mathlib.Numerals.{add-one}
-use lib.ListN.{length, take, drop, length-drop, take-append-drop, drop-of-length-le}
+use lib.ListN.{length, drop, length-append, length-drop, drop-of-length-le}
 use lib.Seq.{drop-drop}
 use Rattle.uslp_kinds.specs.Outcome.{done, refused}
 use Rattle.uslp_kinds.specs.Kinds.{fixedLength}
@@ -15,36 +14,36 @@ use Rattle.uslp_header.specs.Header.{lenFrame}
 use Rattle.uslp_reader.specs.Reader.{frameReading}
 use Rattle.uslp_reader.specs.declared.TransferFrame.{TransferFrame}
 use Rattle.uslp_reader.proofs.Done.{read-done}
-use Rattle.uslp_listing.specs.Listing.{line, summary, linesFrom, Appended}
-use Rattle.uslp_listing.proofs.Appending.{joined}
-use Rattle.uslp_listing.proofs.Lines.{lines-end, lines-more, lines-refused}
+use Rattle.uslp_text.specs.Text.{Told}
+use Rattle.uslp_text.proofs.Telling.{told-as, told-more}
+use Rattle.uslp_listing.specs.Listing.{heading, line, summary, linesFrom, room}
+use Rattle.uslp_listing.proofs.Lines.{Small, line-short, summary-short, lines-end, lines-more, lines-refused}
 
--- the frames before the place have their lines, with eight octets of text or less for each octet passed
+abbrev whole : List ℕ → List ℕ
+whole s = linesFrom (length s) s 0 0
+
+-- the whole text is told, and has its room behind the heading
+abbrev pub Complete : List ℕ → ℕ → List ℕ → ℕ → List ℕ → Type 0
+Complete s start found end left = Told (whole s) start found end left × (length (heading ++ whole s) ≤ room)
+
+-- what is told from the place on completes the whole, and the lines before it have eight characters or less for each octet passed
 pub record Passed (s found : List ℕ) (start at place frames : ℕ) (left : List ℕ) : Type 0 where
   pub inside : place ≤ length s
   pub few : frames ≤ place
-  pub short : at ≤ start + 8 * place
-  pub text : List ℕ
   pub most : ℕ
   pub enough : length s ≤ place + most
-  pub lines : linesFrom (length s) s 0 0 ≡ text ++ linesFrom most (drop place s) place frames
-  pub appended : Appended text start found at left
+  pub short : length (whole s) ≤ 8 * place + length (linesFrom most (drop place s) place frames)
+  pub told : (end : ℕ) (last : List ℕ) → Told (linesFrom most (drop place s) place frames) at left end last → Told (whole s) start found end last
 
-pub passed-none : (s found : List ℕ) (start : ℕ) → start ≤ length found → Passed s found start start 0 0 found
-passed-none s found start h =
+pub passed-none : (s found : List ℕ) (start : ℕ) → Passed s found start start 0 0 found
+passed-none s found start =
     record {
       inside = omega arith;
       few = omega arith;
-      short = omega arith;
-      text = [];
       most = length s;
       enough = omega arith;
-      lines = refl;
-      appended = record {
-        fits = omega arith;
-        ends = sym (add-zero start);
-        stands = sym (take-append-drop start found) ∙ ap (λ (n : ℕ). take start found ++ drop n found) (sym (add-zero start));
-      };
+      short = omega arith;
+      told = λ (end : ℕ) (last : List ℕ) (q : Told (whole s) start found end last). q;
     }
 
 -- a frame that is read has eight octets or more: its header's seven and its data field header's one
@@ -52,52 +51,44 @@ one-more : (b : Bool) → 1 ≤ cond b 3 1
 one-more true = omega arith
 one-more false = omega arith
 
-module _ (t : List ℕ) {x : TransferFrame} (read : frameReading t false ≡ done x) where
-  pub frame-eight : 8 ≤ lenFrame (x .«primary_header»)
-  frame-eight = omega (arith, read-done t false x read .room, one-more (fixedLength (x .«data_field_header» .«construction_rule»)))
+pub frame-eight : (t : List ℕ) {x : TransferFrame} → frameReading t false ≡ done x → 8 ≤ lenFrame (x .«primary_header»)
+frame-eight t {x} read = omega (arith, read-done t false x read .room, one-more (fixedLength (x .«data_field_header» .«construction_rule»)))
 
-  pub frame-whole : lenFrame (x .«primary_header») ≤ length t
-  frame-whole = read-done t false x read .whole
-
-  pub data-inside : x .«data_len» ≤ lenFrame (x .«primary_header»)
-  data-inside = omega (arith, ap (λ (y : TransferFrame). y .«data_len») (read-done t false x read .frame))
-
-module _ {s found left : List ℕ} {start at place frames : ℕ} (p : Passed s found start at place frames left) where
-  pub passed-more : {n end : ℕ} {last : List ℕ} (x : TransferFrame) → place < length s → frameReading (drop place s) false ≡ done x
-      → n ≡ lenFrame (x .«primary_header») → length (line place x) ≤ 64 → Appended (line place x) at left end last → Passed s found start end (place + n) (frames + 1) last
-  passed-more {n} x h read e short a =
+module _ {s found left : List ℕ} {start at place frames : ℕ} (long : length s ≤ 65536) (p : Passed s found start at place frames left) where
+  pub passed-more : {n end : ℕ} {last : List ℕ} (x : TransferFrame) → place < length s → frameReading (drop place s) false ≡ done x → Small x
+      → n ≡ lenFrame (x .«primary_header») → Told (line place x) at left end last → Passed s found start end (place + n) (frames + 1) last
+  passed-more {n} {end} {last} x h read small e a =
       let eight = frame-eight (drop place s) read in
-      let whole = frame-whole (drop place s) read in
+      let r = read-done (drop place s) false x read in
       let left-over = length-drop place s in
-      let l = lines-more place frames (p .most) (drop place s) x (omega (arith, p .enough)) (omega arith) read in
-      let m : ℕ = p .most - 1 in
-      let long : ℕ = lenFrame (x .«primary_header») in
-      let rest : linesFrom m (drop long (drop place s)) (place + long) (suc frames) ≡ linesFrom m (drop (place + n) s) (place + n) (frames + 1) =
-      ap (λ (t : List ℕ). linesFrom m t (place + long) (suc frames)) (drop-drop long place s)
-      ∙ ap (λ (k : ℕ). linesFrom m (drop (place + k) s) (place + k) (suc frames)) (sym e)
-      ∙ ap (λ (k : ℕ). linesFrom m (drop (place + n) s) (place + n) k) (sym (add-one frames)) in
+      let inside : lenFrame (x .«primary_header») ≤ length s - place = omega (arith, r .whole) in
+      let contents : x .«data_len» ≤ 65536 = omega (arith, ap (λ (y : TransferFrame). y .«data_len») (r .frame)) in
+      let short = line-short place x (omega arith) (omega arith) contents small in
+      let next : List ℕ = linesFrom (p .most - 1) (drop (place + n) s) (place + n) (frames + 1) in
+      let l : linesFrom (p .most) (drop place s) place frames ≡ line place x ++ next =
+      lines-more place frames (p .most) (drop place s) x (omega (arith, p .enough)) (omega arith) read
+      ∙ rw (drop-drop (lenFrame (x .«primary_header»)) place s, sym e, sym (add-one frames)) refl in
       record {
         inside = omega arith;
         few = omega (arith, p .few);
-        short = omega (arith, p .short, a .ends);
-        text = p .text ++ line place x;
         most = p .most - 1;
         enough = omega (arith, p .enough);
-        lines =
-            p .lines ∙ ap (λ (t : List ℕ). p .text ++ t) (l ∙ ap (λ (t : List ℕ). line place x ++ t) rest)
-            ∙ sym (append-assoc (p .text) (line place x) (linesFrom (p .most - 1) (drop (place + n) s) (place + n) (frames + 1)));
-        appended = joined (p .appended) a;
+        short = omega (arith, p .short, ap length l, length-append (line place x) next);
+        told = λ (stop : ℕ) (final : List ℕ) (q : Told next end last stop final). p .told stop final (told-as (sym l) (told-more a q));
       }
 
-  pub passed-refused : {k end : ℕ} {vs last : List ℕ} → place < length s → frameReading (drop place s) false ≡ refused k vs
-      → Appended (summary frames place k) at left end last → Appended (linesFrom (length s) s 0 0) start found end last
-  passed-refused {k} {end} {vs} {last} h read a =
-      let l = lines-refused place frames (p .most) (drop place s) (omega (arith, p .enough)) (omega (arith, length-drop place s)) read in
-      subst (λ (t : List ℕ). Appended t start found end last) (sym (p .lines ∙ ap (λ (t : List ℕ). p .text ++ t) l)) (joined (p .appended) a)
+  -- the summary that is the rest of the text ends it
+  ended : {k end : ℕ} {last : List ℕ} → k < 256 → linesFrom (p .most) (drop place s) place frames ≡ summary frames place k
+      → Told (summary frames place k) at left end last → Complete s start found end last
+  ended {k} {end} {last} small l a =
+      let short = summary-short frames place k (omega (arith, p .few, p .inside)) (omega (arith, p .inside)) small in
+      (p .told end last (told-as (sym l) a), omega (arith, p .short, p .inside, ap length l))
 
-  pub passed-all : {end : ℕ} {last : List ℕ} → length s ≤ place → Appended (summary frames place 0) at left end last
-      → Appended (linesFrom (length s) s 0 0) start found end last
-  passed-all {end} {last} h a =
-      let d : drop place s ≡ [] = drop-of-length-le s {i = place} h in
-      let l = ap (λ (t : List ℕ). linesFrom (p .most) t place frames) d ∙ lines-end (p .most) place frames in
-      subst (λ (t : List ℕ). Appended t start found end last) (sym (p .lines ∙ ap (λ (t : List ℕ). p .text ++ t) l)) (joined (p .appended) a)
+  pub passed-refused : {k end : ℕ} {vs last : List ℕ} → place < length s → k < 256 → frameReading (drop place s) false ≡ refused k vs
+      → Told (summary frames place k) at left end last → Complete s start found end last
+  passed-refused h small read a =
+      ended small (lines-refused place frames (p .most) (drop place s) (omega (arith, p .enough)) (omega (arith, length-drop place s)) read) a
+
+  pub passed-all : {end : ℕ} {last : List ℕ} → length s ≤ place → Told (summary frames place 0) at left end last → Complete s start found end last
+  passed-all h a =
+      ended (omega arith) (ap (λ (t : List ℕ). linesFrom (p .most) t place frames) (drop-of-length-le s {i = place} h) ∙ lines-end (p .most) place frames) a

@@ -1,24 +1,21 @@
 -- The listing of a recording: a line for each frame without FECF, end to end, until a refusal or the end.
-use mathlib.Core.Path.{_≡_}
-use Prim.Native.Nat.{ℕ, zero, suc, _+_, _≤_}
+use Prim.Native.Nat.{ℕ, zero, suc, _+_}
 use mathlib.Core.Bool.{false, cond}
 use mathlib.Core.List.{List, [], _∷_, _++_}
-use lib.ListN.{length, take, drop}
+use lib.ListN.{length, drop}
 use lib.Dec.{ltb}
 use Rattle.uslp_kinds.specs.Outcome.{Outcome, done, refused, Written, written, firstOf}
 use Rattle.uslp_header.specs.Header.{lenFrame}
 use Rattle.uslp_reader.specs.Reader.{frameReading}
 use Rattle.uslp_reader.specs.declared.TransferFrame.{TransferFrame}
-use Rattle.uslp_text.specs.Text.{decimal}
+use Rattle.uslp_text.specs.Text.{text, decimal}
 
--- `at length spacecraft channel map count data`, and a new line
 abbrev pub heading : List ℕ
-heading =
-    97 ∷ 116 ∷ 32 ∷ 108 ∷ 101 ∷ 110 ∷ 103 ∷ 116 ∷ 104 ∷ 32 ∷ 115 ∷ 112 ∷ 97 ∷ 99 ∷ 101 ∷ 99 ∷ 114 ∷ 97 ∷ 102 ∷ 116 ∷ 32 ∷ 99 ∷ 104 ∷ 97 ∷ 110 ∷ 110 ∷ 101 ∷ 108 ∷ 32 ∷ 109 ∷ 97 ∷ 112 ∷ 32 ∷ 99 ∷ 111 ∷ 117 ∷ 110 ∷ 116 ∷ 32 ∷ 100 ∷ 97 ∷ 116 ∷ 97 ∷ 10 ∷ []
+heading = text "at length spacecraft channel map count data\n"
 
 -- a numeral and a blank behind it
 abbrev pub word : ℕ → List ℕ
-word n = decimal n ++ (32 ∷ [])
+word n = decimal n ++ text " "
 
 -- the line of a frame that stands at a place
 abbrev pub line : ℕ → TransferFrame → List ℕ
@@ -29,15 +26,11 @@ line at x =
     ++ (word (x .«primary_header» .«vc_id»)
     ++ (word (x .«primary_header» .«map_id»)
     ++ (word (x .«primary_header» .«vc_frame_count»)
-    ++ (decimal (x .«data_len») ++ (10 ∷ [])))))))
+    ++ (decimal (x .«data_len») ++ text "\n"))))))
 
--- `frames N stopped PLACE answer NUMBER`, and a new line
 abbrev pub summary : ℕ → ℕ → ℕ → List ℕ
 summary frames at answer =
-    (102 ∷ 114 ∷ 97 ∷ 109 ∷ 101 ∷ 115 ∷ 32 ∷ [])
-    ++ (decimal frames
-    ++ ((32 ∷ 115 ∷ 116 ∷ 111 ∷ 112 ∷ 112 ∷ 101 ∷ 100 ∷ 32 ∷ [])
-    ++ (decimal at ++ ((32 ∷ 97 ∷ 110 ∷ 115 ∷ 119 ∷ 101 ∷ 114 ∷ 32 ∷ []) ++ (decimal answer ++ (10 ∷ []))))))
+    text "frames " ++ (decimal frames ++ (text " stopped " ++ (decimal at ++ (text " answer " ++ (decimal answer ++ text "\n")))))
 
 -- what follows a reading: the frame's line and those behind it, or the end
 abbrev pub afterFrame : Outcome TransferFrame → (TransferFrame → List ℕ) → (ℕ → List ℕ) → List ℕ
@@ -69,9 +62,3 @@ listingOver s t =
     (firstOf ((ltb (length t) room, refused 2 (length t ∷ room ∷ [])) ∷ []) (done (length (listing s))))
     (listing s ++ drop (length (listing s)) t)
     t
-
--- what the private functions promise: the text t stands in the buffer from a place to an end, and the octets around it stay
-pub record Appended (t : List ℕ) (at : ℕ) (found : List ℕ) (end : ℕ) (left : List ℕ) : Type 0 where
-  pub fits : at + length t ≤ length found
-  pub ends : end ≡ at + length t
-  pub stands : left ≡ take at found ++ (t ++ drop (at + length t) found)

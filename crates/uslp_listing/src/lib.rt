@@ -1,19 +1,18 @@
 // The listing of a recording, as text in a lent buffer.
 use uslp_kinds::LengthAnswer;
 use uslp_kinds::Refusal;
-use uslp_octets::copy_octets;
 use uslp_reader::FrameAnswer;
 use uslp_reader::TransferFrame;
-use uslp_text::decimal_len;
-use uslp_text::put_decimal;
+use uslp_text::put_number;
+use uslp_text::put_text;
 ghost use mathlib.Core.Path.{_≡_};
-ghost use Prim.Native.Nat.{_+_, _≤_};
+ghost use Prim.Native.Nat.{_≤_};
 ghost use mathlib.Core.List.{_++_};
 ghost use lib.ListN.{length};
 ghost use Rattle.uslp_kinds.specs.Outcome.{leaving};
 ghost use Rattle.uslp_kinds.specs.Answers.{paperLength};
-ghost use Rattle.uslp_text.specs.Text.{decimal};
-ghost use Rattle.uslp_listing.specs.Listing.{line, summary, linesFrom, room, listingOver, Appended};
+ghost use Rattle.uslp_text.specs.Text.{decimal, Told};
+ghost use Rattle.uslp_listing.specs.Listing.{heading, line, summary, linesFrom, room, listingOver};
 
 // A buffer of this length holds the listing of any recording.
 pub const LISTING_ROOM: usize = 524400;
@@ -29,17 +28,18 @@ pub fn list(recording: &[u8], out: &mut [u8]) -> LengthAnswer
             expected: LISTING_ROOM,
         });
     }
-    let at = put_text(b"at length spacecraft channel map count data\n", 0, out);
+    let at = put_text(b"at length spacecraft channel map count data\n", out, 0);
     if recording.len() > 65536 {
-        return LengthAnswer::Done(put_summary(0, 0, 12, at, out));
+        return LengthAnswer::Done(put_summary(0, 0, 12, out, at));
     }
-    LengthAnswer::Done(put_lines(recording, at, out))
+    LengthAnswer::Done(put_lines(recording, out, at))
 }
 
-// The lines of the frames, end to end, and the summary.
-fn put_lines(recording: &[u8], start: usize, out: &mut [u8]) -> usize
-    requires { ⌜ (length (now recording) ≤ 65536) × (start ≤ 44) × (room ≤ length (now out)) ⌝ }
-    ensures { λ r. ⌜ Appended (linesFrom (length (now (recording .entry))) (now (recording .entry)) 0 0) start (now (out .entry)) r (now (out .exit)) ⌝ }
+// The lines of the frames, end to end, and the summary. Behind the heading they have their room.
+fn put_lines(recording: &[u8], out: &mut [u8], start: usize) -> usize
+    requires { ⌜ length (now recording) ≤ 65536 ⌝ }
+    ensures { λ r. ⌜ Told (linesFrom (length (now (recording .entry))) (now (recording .entry)) 0 0) start (now (out .entry)) r (now (out .exit)) ⌝ }
+    ensures { λ _. ⌜ length (heading ++ linesFrom (length (now (recording .entry))) (now (recording .entry)) 0 0) ≤ room ⌝ }
 {
     let mut at = start;
     let mut place: usize = 0;
@@ -47,57 +47,44 @@ fn put_lines(recording: &[u8], start: usize, out: &mut [u8]) -> usize
     while place < recording.len() {
         match TransferFrame::from_bytes(&recording[place..], false) {
             FrameAnswer::Done(frame) => {
-                at = put_line(place, frame, at, out);
+                at = put_line(place, frame, out, at);
                 place += frame.len_frame();
                 frames += 1;
             }
             FrameAnswer::Refused(refusal) => {
-                return put_summary(frames, place, refusal.number(), at, out);
+                return put_summary(frames, place, refusal.number(), out, at);
             }
         }
     }
-    put_summary(frames, place, 0, at, out)
+    put_summary(frames, place, 0, out, at)
 }
 
-fn put_line(place: usize, frame: TransferFrame, at: usize, out: &mut [u8]) -> usize
-    requires { ⌜ at + length (line place frame) ≤ length (now out) ⌝ }
-    ensures { λ r. ⌜ Appended (line place frame) at (now (out .entry)) r (now (out .exit)) ⌝ }
+fn put_line(place: usize, frame: TransferFrame, out: &mut [u8], at: usize) -> usize
+    ensures { λ r. ⌜ Told (line place frame) at (now (out .entry)) r (now (out .exit)) ⌝ }
 {
     let header = frame.primary_header;
-    let a = put_number(place as u64, b" ", at, out);
-    let b = put_number(header.len_frame() as u64, b" ", a, out);
-    let c = put_number(header.spacecraft_id as u64, b" ", b, out);
-    let d = put_number(header.vc_id as u64, b" ", c, out);
-    let e = put_number(header.map_id as u64, b" ", d, out);
-    let f = put_number(header.vc_frame_count, b" ", e, out);
-    put_number(frame.data_len as u64, b"\n", f, out)
+    let a = put_word(place as u64, b" ", out, at);
+    let b = put_word(header.len_frame() as u64, b" ", out, a);
+    let c = put_word(header.spacecraft_id as u64, b" ", out, b);
+    let d = put_word(header.vc_id as u64, b" ", out, c);
+    let e = put_word(header.map_id as u64, b" ", out, d);
+    let f = put_word(header.vc_frame_count, b" ", out, e);
+    put_word(frame.data_len as u64, b"\n", out, f)
 }
 
-fn put_summary(frames: usize, place: usize, answer: u8, at: usize, out: &mut [u8]) -> usize
-    requires { ⌜ at + length (summary frames place answer) ≤ length (now out) ⌝ }
-    ensures { λ r. ⌜ Appended (summary frames place answer) at (now (out .entry)) r (now (out .exit)) ⌝ }
+fn put_summary(frames: usize, place: usize, answer: u8, out: &mut [u8], at: usize) -> usize
+    ensures { λ r. ⌜ Told (summary frames place answer) at (now (out .entry)) r (now (out .exit)) ⌝ }
 {
-    let a = put_text(b"frames ", at, out);
-    let b = put_number(frames as u64, b" stopped ", a, out);
-    let c = put_number(place as u64, b" answer ", b, out);
-    put_number(answer as u64, b"\n", c, out)
+    let a = put_text(b"frames ", out, at);
+    let b = put_word(frames as u64, b" stopped ", out, a);
+    let c = put_word(place as u64, b" answer ", out, b);
+    put_word(answer as u64, b"\n", out, c)
 }
 
 // A numeral, and a text behind it.
-fn put_number(value: u64, text: &[u8], at: usize, out: &mut [u8]) -> usize
-    requires { ⌜ at + length (decimal value ++ now text) ≤ length (now out) ⌝ }
-    ensures { λ r. ⌜ Appended (decimal value ++ now (text .entry)) at (now (out .entry)) r (now (out .exit)) ⌝ }
+fn put_word(value: u64, text: &[u8], out: &mut [u8], at: usize) -> usize
+    ensures { λ r. ⌜ Told (decimal value ++ now (text .entry)) at (now (out .entry)) r (now (out .exit)) ⌝ }
 {
-    let end = at + decimal_len(value);
-    put_decimal(value, &mut out[at..end]);
-    put_text(text, end, out)
-}
-
-fn put_text(text: &[u8], at: usize, out: &mut [u8]) -> usize
-    requires { ⌜ at + length (now text) ≤ length (now out) ⌝ }
-    ensures { λ r. ⌜ Appended (now (text .entry)) at (now (out .entry)) r (now (out .exit)) ⌝ }
-{
-    let end = at + text.len();
-    copy_octets(text, &mut out[at..end]);
-    end
+    let end = put_number(value, out, at);
+    put_text(text, out, end)
 }
