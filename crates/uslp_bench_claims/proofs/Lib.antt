@@ -1,3 +1,4 @@
 pub mod OfArguments
 pub mod OfAnswers
 pub mod OfCommands
+pub mod Sessions
