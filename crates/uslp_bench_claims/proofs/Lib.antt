@@ -1,4 +1,5 @@
 pub mod OfArguments
 pub mod OfAnswers
 pub mod OfCommands
+pub mod OfBench
 pub mod Sessions

@@ -12,5 +12,6 @@ pub mod OfChannel
 pub mod CasesHold
 pub mod Demand1
 pub mod Wrong
+pub mod OfText
 pub mod OfListing
 pub mod OfWords

@@ -1,13 +1,11 @@
--- The promises of `uslp_layout` and `uslp_text` settle each call, and shut out two tempting wrong answers of each function.
+-- The promises of `uslp_layout` settle each call, and shut out two tempting wrong answers of each function.
 use mathlib.Core.Path.{_≡_, refl, sym, _∙_}
 use mathlib.Core.Bool.{true, false}
 use mathlib.Core.List.{[], _∷_}
 use Prim.Native.Nat.{ℕ}
 use native.Mathlib.Omega.{arith}
-use Rattle.uslp_text.specs.Text.{widthIn}
 use Rattle.uslp_layout.proofs as layout
-use Rattle.uslp_text.proofs as text
-use Rattle.uslp_demands.specs.Promise.{at, Allows, Settles}
+use Rattle.uslp_demands.specs.Promise.{Allows, Settles}
 use Rattle.uslp_demands.specs.Samples.{whole, spanning, some, flagged}
 use Rattle.uslp_demands.proofs.Alike.{alike}
 
@@ -43,27 +41,3 @@ fecf-len-none e = omega arith
 -- two where it is not
 pub fecf-len-always : Allows layout.fecf_len.Kinds.ps layout.fecf_len.Kinds.r layout.fecf_len.Reads.Learnt tt (false, tt) (2, (tt, tt)) → ⊥
 fecf-len-always e = omega arith
-
-pub decimal-len-settles : Settles text.decimal_len.Kinds.ps text.decimal_len.Kinds.r text.decimal_len.Reads.Pre text.decimal_len.Reads.Learnt
-decimal-len-settles = record { total = λ κs a. tt; same = λ κs a x y s t. alike (s ∙ sym t) refl }
-
--- none for 0
-pub decimal-len-zero : Allows text.decimal_len.Kinds.ps text.decimal_len.Kinds.r text.decimal_len.Reads.Learnt tt (0, tt) (0, (tt, tt)) → ⊥
-unfolding widthIn
-decimal-len-zero e = omega arith
-
--- one for 10
-pub decimal-len-ten : Allows text.decimal_len.Kinds.ps text.decimal_len.Kinds.r text.decimal_len.Reads.Learnt tt (10, tt) (1, (tt, tt)) → ⊥
-unfolding widthIn
-decimal-len-ten e = omega arith
-
-pub put-decimal-settles : Settles text.put_decimal.Kinds.ps text.put_decimal.Kinds.r text.put_decimal.Reads.Pre text.put_decimal.Reads.Learnt
-put-decimal-settles = record { total = λ κs a. tt; same = λ κs a x y s t. alike refl (λ i. (tt, ((s ∙ sym t) i, tt))) }
-
--- writes nothing
-pub put-decimal-idle : Allows text.put_decimal.Kinds.ps text.put_decimal.Kinds.r text.put_decimal.Reads.Learnt ([], tt) (42, (at (0 ∷ 0 ∷ []), tt)) (tt, (tt, (0 ∷ 0 ∷ [], tt))) → ⊥
-put-decimal-idle e = let z : _≡_ {A = ℕ} 0 52 = cc in omega arith
-
--- the least significant digit first
-pub put-decimal-swapped : Allows text.put_decimal.Kinds.ps text.put_decimal.Kinds.r text.put_decimal.Reads.Learnt ([], tt) (42, (at (0 ∷ 0 ∷ []), tt)) (tt, (tt, (50 ∷ 52 ∷ [], tt))) → ⊥
-put-decimal-swapped e = let z : _≡_ {A = ℕ} 50 52 = cc in omega arith

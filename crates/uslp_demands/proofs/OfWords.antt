@@ -1,6 +1,6 @@
 -- The promises of `uslp_words` settle each call, and shut out two tempting wrong answers of each function.
 use mathlib.Core.Path.{_≡_, refl, sym, _∙_}
-use mathlib.Core.List.{[], _∷_}
+use mathlib.Core.List.{List, [], _∷_}
 use Prim.Native.Nat.{ℕ}
 use native.Mathlib.Omega.{arith}
 use Rattle.uslp_words.specs.Words.{numberIn, numberAfter, isHex, octetsAnswer, octetsLeft, run}
@@ -58,6 +58,13 @@ put-hex-little e = let z : _≡_ {A = ℕ} 50 49 = cc in omega arith
 -- letters in upper case
 pub put-hex-upper : Allows words.put_hex.Kinds.ps words.put_hex.Kinds.r words.put_hex.Reads.Learnt ([], ([], tt)) (at (0xab ∷ []), (at (7 ∷ 8 ∷ []), tt)) (tt, (tt, (65 ∷ 66 ∷ [], tt))) → ⊥
 put-hex-upper e = let z : _≡_ {A = ℕ} 65 97 = cc in omega arith
+
+pub put-octets-settles : Settles words.text.put_octets.Kinds.ps words.text.put_octets.Kinds.r words.text.put_octets.Reads.Pre words.text.put_octets.Reads.Learnt
+put-octets-settles = record { total = λ κs a. tt; same = λ κs a x y s t. alike (s .ends ∙ sym (t .ends)) (λ i. (tt, ((s .stands ∙ sym (t .stands)) i, (tt, tt)))) }
+
+-- no dash for no octets
+pub put-octets-none : (left : List ℕ) → Allows words.text.put_octets.Kinds.ps words.text.put_octets.Kinds.r words.text.put_octets.Reads.Learnt ([], ([], tt)) (at [], (at (7 ∷ []), (0, tt))) (0, (tt, (left, (tt, tt)))) → ⊥
+put-octets-none left e = let z : _≡_ {A = ℕ} 0 1 = e .ends in omega arith
 
 pub fill-settles : Settles words.fill.Kinds.ps words.fill.Kinds.r words.fill.Reads.Pre words.fill.Reads.Learnt
 fill-settles = record { total = λ κs a. tt; same = λ κs a x y s t. alike refl (λ i. (tt, ((s ∙ sym t) i, tt))) }

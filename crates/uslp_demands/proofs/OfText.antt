@@ -1,0 +1,44 @@
+-- The promises of `uslp_text` settle each call, and shut out tempting wrong answers.
+use mathlib.Core.Path.{_≡_, refl, sym, ap, _∙_}
+use mathlib.Core.List.{List, [], _∷_}
+use Prim.Native.Nat.{ℕ}
+use native.Mathlib.Omega.{arith}
+use lib.ListN.{getD}
+use Rattle.uslp_text.specs.Text.{widthIn}
+use Rattle.uslp_text.proofs as text
+use Rattle.uslp_demands.specs.Promise.{at, Allows, Settles}
+use Rattle.uslp_demands.proofs.Alike.{alike}
+
+pub decimal-len-settles : Settles text.decimal_len.Kinds.ps text.decimal_len.Kinds.r text.decimal_len.Reads.Pre text.decimal_len.Reads.Learnt
+decimal-len-settles = record { total = λ κs a. tt; same = λ κs a x y s t. alike (s ∙ sym t) refl }
+
+-- none for 0
+pub decimal-len-zero : Allows text.decimal_len.Kinds.ps text.decimal_len.Kinds.r text.decimal_len.Reads.Learnt tt (0, tt) (0, (tt, tt)) → ⊥
+unfolding widthIn
+decimal-len-zero e = omega arith
+
+-- one for 10
+pub decimal-len-ten : Allows text.decimal_len.Kinds.ps text.decimal_len.Kinds.r text.decimal_len.Reads.Learnt tt (10, tt) (1, (tt, tt)) → ⊥
+unfolding widthIn
+decimal-len-ten e = omega arith
+
+pub put-decimal-settles : Settles text.put_decimal.Kinds.ps text.put_decimal.Kinds.r text.put_decimal.Reads.Pre text.put_decimal.Reads.Learnt
+put-decimal-settles = record { total = λ κs a. tt; same = λ κs a x y s t. alike refl (λ i. (tt, ((s ∙ sym t) i, tt))) }
+
+-- writes nothing
+pub put-decimal-idle : Allows text.put_decimal.Kinds.ps text.put_decimal.Kinds.r text.put_decimal.Reads.Learnt ([], tt) (42, (at (0 ∷ 0 ∷ []), tt)) (tt, (tt, (0 ∷ 0 ∷ [], tt))) → ⊥
+put-decimal-idle e = let z : _≡_ {A = ℕ} 0 52 = cc in omega arith
+
+-- the least significant digit first
+pub put-decimal-swapped : Allows text.put_decimal.Kinds.ps text.put_decimal.Kinds.r text.put_decimal.Reads.Learnt ([], tt) (42, (at (0 ∷ 0 ∷ []), tt)) (tt, (tt, (50 ∷ 52 ∷ [], tt))) → ⊥
+put-decimal-swapped e = let z : _≡_ {A = ℕ} 50 52 = cc in omega arith
+
+pub put-text-settles : Settles text.put_text.Kinds.ps text.put_text.Kinds.r text.put_text.Reads.Pre text.put_text.Reads.Learnt
+put-text-settles = record { total = λ κs a. tt; same = λ κs a x y s t. alike (s .ends ∙ sym (t .ends)) (λ i. (tt, ((s .stands ∙ sym (t .stands)) i, (tt, tt)))) }
+
+-- leaves out what has no room, and tells a place behind it
+pub put-text-out : Allows text.put_text.Kinds.ps text.put_text.Kinds.r text.put_text.Reads.Learnt ([], ([], tt)) (at (1 ∷ 2 ∷ []), (at (7 ∷ []), (0, tt))) (1, (tt, (7 ∷ [], (tt, tt)))) → ⊥
+put-text-out e = let z : _≡_ {A = ℕ} 7 1 = ap (λ (s : List ℕ). getD s 0 0) (e .stands) in omega arith
+
+pub put-number-settles : Settles text.put_number.Kinds.ps text.put_number.Kinds.r text.put_number.Reads.Pre text.put_number.Reads.Learnt
+put-number-settles = record { total = λ κs a. tt; same = λ κs a x y s t. alike (s .ends ∙ sym (t .ends)) (λ i. (tt, ((s .stands ∙ sym (t .stands)) i, (tt, tt)))) }
