@@ -47,20 +47,23 @@ frames =
     ∷ ("", "bad command")
     ∷ []
 
--- a channel that misses three frames
+-- a channel that misses three frames, and one that hears none
 abbrev pub channels : List Exchange
 channels =
-    ("show 4660 5", "13")
+    ("show 4660 6", "13")
     ∷ ("open 4660 64 1", "10")
+    ∷ ("open 4660 6 1", "0")
+    ∷ ("show 4660 6", "0 1 unheard")
     ∷ ("open 4660 5 1", "0")
-    ∷ ("show 4660 5", "0 1 unheard")
     ∷ ("hear 0 c12348a6000a0107e40af0", "0 NEW 0 0af0")
     ∷ ("hear 0 c12348a6000a0107e40af0", "0 REPEAT")
     ∷ ("hear 0 c12348a6000a010be40af0", "0 NEW 3 0af0")
-    ∷ ("hear 0 c12348a6000a0108e40af0", "0 LATE")
-    ∷ ("show 4660 5", "0 1 11 2 3 1 1")
+    ∷ ("show 4660 5", "0 1 11 2 3 1 0")
     ∷ ("total", "0 3")
+    ∷ ("hear 0 c12348a6000a0108e40af0", "0 LATE")
+    ∷ ("hear 0 c12348a6000b020007e40af0", "14 2 1")
     ∷ ("open 4660 5 1", "15")
+    ∷ ("show 4660 5", "0 1 11 2 3 1 1")
     ∷ ("close 4660 5", "0")
     ∷ ("total", "0 0")
     ∷ []
