@@ -1,7 +1,8 @@
 #!/usr/bin/env python3
 """Compares uslp_run with the Rust, which answers the same commands: crc, hr, dr, fr, hw, fw, rw, random, damaged and at the boundaries.
 
-Usage: compare.py ORACLE PROGRAM [COMMANDS [SEED]]     ORACLE is the built driver of the Rust, PROGRAM a built uslp_run; default 16,000
+Usage: compare.py ORACLE PROGRAM [COMMANDS [SEED]]     ORACLE is the built driver of the Rust, PROGRAM what runs uslp_run,
+                                                       as 'tools/run uslp_run'; default 16,000
        compare.py --write DIR ORACLE PROGRAM COMMANDS SEED    writes the commands that have equal answers, and the Rust's answers to them,
                                                               to DIR/stdin and DIR/stdout
 Counts the answers by command and number, and the differences by kind with the shortest command of each. A difference that docs/DIFFERENCES.md
@@ -9,6 +10,7 @@ does not list, judged from the command's own words, makes the exit status 1.
 """
 import collections
 import random
+import shlex
 import subprocess
 import sys
 
@@ -202,7 +204,7 @@ def written(width, rule, ocf, fecf):
 
 
 def answers(program, lines):
-    done = subprocess.run([program], input=("\n".join(lines) + "\n").encode(), stdout=subprocess.PIPE, stderr=subprocess.DEVNULL, check=True)
+    done = subprocess.run(shlex.split(program), input=("\n".join(lines) + "\n").encode(), stdout=subprocess.PIPE, stderr=subprocess.DEVNULL, check=True)
     said = done.stdout.decode().split("\n")
     assert said.pop() == "" and len(said) == len(lines), f"{program}: {len(said)} answers to {len(lines)} lines"
     return said

@@ -2,10 +2,11 @@
 """Tries demand 3 from outside: random senders, a link that loses, repeats, reorders and damages frames of several channels within
 the window, and a count of its own, over the places sent, of what was never handed on. Every answer of the program is compared.
 
-Usage: histories.py PROGRAM [HISTORIES [FRAMES [SEED]]]     (PROGRAM is a built uslp_run; default 100 histories of 1000 frames)
+Usage: histories.py PROGRAM [HISTORIES [FRAMES [SEED]]]     (PROGRAM is what runs uslp_run, as 'tools/run uslp_run'; default 100, 1000)
        histories.py --write DIR PROGRAM HISTORIES FRAMES SEED    writes the commands and the program's answers to DIR/stdin, DIR/stdout
 """
 import random
+import shlex
 import subprocess
 import sys
 
@@ -164,7 +165,7 @@ def history(rng, frames):
 
 def ask_program(program, commands):
     text = "".join(c + "\n" for c in commands)
-    return subprocess.run([program], input=text, stdout=subprocess.PIPE, text=True, check=True).stdout.splitlines()
+    return subprocess.run(shlex.split(program), input=text, stdout=subprocess.PIPE, text=True, check=True).stdout.splitlines()
 
 
 def compare(program, commands, answers):
