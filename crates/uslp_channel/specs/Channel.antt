@@ -1,4 +1,5 @@
 -- Hearing a frame: what it answers, what it hands on, and the record that it leaves, in the order of document 01.
+use mathlib.Core.Path.{_≡_}
 use Prim.Native.Nat.{ℕ, _<_}
 use mathlib.Core.Bool.{Bool}
 use mathlib.Core.List.{List, []}
@@ -7,10 +8,12 @@ use Rattle.uslp_kinds.specs.Answers.{refusal}
 use Rattle.uslp_header.specs.declared.PrimaryHeader.{PrimaryHeader}
 use Rattle.uslp_reader.specs.Reader.{frameReading, contentsIn}
 use Rattle.uslp_reader.specs.declared.TransferFrame.{TransferFrame}
-use Rattle.uslp_record.specs.Slots.{put}
+use Rattle.uslp_record.specs.Slots.{find, stateAt, put}
 use Rattle.uslp_record.specs.Record.{Kept, keeping}
-use Rattle.uslp_record.specs.Hearing.{hearing}
+use Rattle.uslp_record.specs.Hearing.{totalsAt, hearing}
 use Rattle.uslp_record.specs.declared.Channel.{Channel}
+use Rattle.uslp_record.specs.declared.SlotState.{SlotState}
+use Rattle.uslp_record.specs.declared.SlotState.the-variants.{Heard}
 use Rattle.uslp_record.specs.declared.ChannelRecord.{ChannelRecord}
 use Rattle.uslp_record.specs.declared.Arrival.{Arrival}
 use Rattle.uslp_record.specs.declared.Arrival.the-variants as arrival
@@ -61,6 +64,15 @@ frameJudgedIn r (verdict.Refused x) = keeping (refusal x) r
 abbrev pub InSlots : FrameVerdict → Type 0
 InSlots (verdict.Done arrival at state) = at < 8
 InSlots (verdict.Refused x) = Unit {0}
+
+-- the slot is the one that holds the frame's channel, and the frame is counted in it
+abbrev pub frameState : ChannelRecord → PrimaryHeader → ℕ → SlotState
+frameState r h at = Heard (channelOf h) (h .«vc_frame_count_len») (totalsAt (stateAt r at) (h .«vc_frame_count»))
+
+abbrev pub SlotOf : ChannelRecord → Outcome TransferFrame → FrameVerdict → Type 0
+SlotOf r (done x) (verdict.Done arrival at state) = (at ≡ find (channelOf (x .«primary_header»)) (r .slots)) × (state ≡ frameState r (x .«primary_header») at)
+SlotOf r (done x) (verdict.Refused y) = Unit {0}
+SlotOf r (refused k vs) v = Unit {0}
 
 -- what an answer hands on of the octets
 abbrev pub handedOn : Outcome FrameArrival → List ℕ → List ℕ

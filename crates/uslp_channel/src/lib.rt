@@ -11,8 +11,9 @@ use uslp_record::Verdict;
 use uslp_record::replaced;
 ghost use mathlib.Core.Path.{_≡_};
 ghost use Rattle.uslp_record.specs.Record.{keeping};
-ghost use Rattle.uslp_reader.specs.Reader.{paperFrame};
-ghost use Rattle.uslp_channel.specs.Channel.{channelOf, paperFrameHeard, frameArrival, heardIn, frameHearing, frameJudgedIn, InSlots, handedOn};
+ghost use Rattle.uslp_kinds.specs.Outcome.{done};
+ghost use Rattle.uslp_reader.specs.Reader.{frameReading};
+ghost use Rattle.uslp_channel.specs.Channel.{channelOf, paperFrameHeard, frameArrival, heardIn, frameHearing, frameJudgedIn, InSlots, SlotOf, handedOn};
 
 // What hearing a frame finds: NEW, with the frame and how many are missing before it, or nothing to hand on.
 pub enum FrameArrival {
@@ -60,7 +61,7 @@ pub fn hear(channels: ChannelRecord, buf: &[u8], has_fecf: bool) -> FrameHearing
 
 // The same, but the record is only read: whoever holds it takes the new state over, in place.
 pub fn judge(channels: ChannelRecord, buf: &[u8], has_fecf: bool) -> FrameVerdict
-    ensures { λ r. ⌜ (frameJudgedIn channels r ≡ frameHearing channels (now (buf .entry)) «has_fecf») × InSlots r ⌝ }
+    ensures { λ r. ⌜ (frameJudgedIn channels r ≡ frameHearing channels (now (buf .entry)) «has_fecf») × InSlots r × SlotOf channels (frameReading (now (buf .entry)) «has_fecf») r ⌝ }
 {
     match TransferFrame::from_bytes(buf, has_fecf) {
         FrameAnswer::Done(frame) => judge_frame(channels, frame),
@@ -93,7 +94,7 @@ pub fn channel_of(header: PrimaryHeader) -> Channel
 }
 
 fn judge_frame(channels: ChannelRecord, frame: TransferFrame) -> FrameVerdict
-    ensures { λ r. ⌜ (frameJudgedIn channels r ≡ heardIn channels frame) × InSlots r ⌝ }
+    ensures { λ r. ⌜ (frameJudgedIn channels r ≡ heardIn channels frame) × InSlots r × SlotOf channels (done frame) r ⌝ }
 {
     let header = frame.primary_header;
     let counted = channels.judge_count(

@@ -4,30 +4,25 @@ use mathlib.Core.Bool.{false}
 use mathlib.Core.List.{List, [], _∷_}
 use Prim.Native.Nat.{ℕ}
 use native.Mathlib.Omega.{arith}
-use contract.Lifetimes.{Lfts}
 use denote.Ref.{RefT, now}
-use borrow.Fn.Kinds.{Dens}
 use Rattle.uslp_kinds.proofs.Back.{back, one-to-one}
+use Rattle.uslp_reader.specs.Reader.{frameReading}
 use Rattle.uslp_record.specs.declared.Channel.{Channel}
 use Rattle.uslp_record.proofs.Back.{keeping-one}
-use Rattle.uslp_channel.specs.Channel.{paperFrameHeard, frameJudgedIn}
+use Rattle.uslp_channel.specs.Channel.{paperFrameHeard}
 use Rattle.uslp_channel.specs.declared.FrameArrival.the-variants.{New, Repeat, Late}
 use Rattle.uslp_channel.specs.declared.FrameHeard.the-variants.{Done, Refused}
-use Rattle.uslp_channel.proofs.Heard.{heard-back}
+use Rattle.uslp_channel.proofs.Heard.{heard-back, frame-verdict-one}
 use Rattle.uslp_channel.proofs as hearing
-use Rattle.uslp_demands.specs.Promise.{at, Left, Allows, Settles, Shows}
+use Rattle.uslp_demands.specs.Promise.{at, Allows, Settles, Shows}
 use Rattle.uslp_demands.specs.Samples.{octetsF, some, readF}
 use Rattle.uslp_demands.proofs.Alike.{alike}
 
 pub hear-settles : Settles hearing.hear.Kinds.ps hearing.hear.Kinds.r hearing.hear.Reads.Pre hearing.hear.Reads.Learnt
 hear-settles = record { total = λ κs a. tt; same = λ κs a x y s t. let e = keeping-one (s ∙ sym t) in alike (λ i. record { answer = one-to-one paperFrameHeard (back Done Refused) heard-back {x = x .0 .answer} {y = y .0 .answer} (e .0) i; next = e .1 i }) refl }
 
--- what a verdict leaves of the record is settled
-pub judge-leaves : (κs : Lfts 1) (a : Dens κs hearing.judge.Kinds.ps) (x y : Left hearing.judge.Kinds.ps hearing.judge.Kinds.r κs a)
-    → Allows hearing.judge.Kinds.ps hearing.judge.Kinds.r hearing.judge.Reads.Learnt κs a x
-    → Allows hearing.judge.Kinds.ps hearing.judge.Kinds.r hearing.judge.Reads.Learnt κs a y
-    → frameJudgedIn (a .0) (x .0) ≡ frameJudgedIn (a .0) (y .0)
-judge-leaves κs a x y s t = s .0 ∙ sym (t .0)
+pub judge-settles : Settles hearing.judge.Kinds.ps hearing.judge.Kinds.r hearing.judge.Reads.Pre hearing.judge.Reads.Learnt
+judge-settles = record { total = λ κs a. tt; same = λ κs a x y s t. alike (frame-verdict-one (a .0) (frameReading (now (a .1 .0)) (a .1 .1 .0)) (x .0) (y .0) (s .0) (t .0) (s .2) (t .2)) refl }
 
 pub handed-on-shows : Shows hearing.handed_on.Kinds.ps hearing.handed_on.Kinds.r hearing.handed_on.Reads.Pre hearing.handed_on.Reads.Learnt (λ κs a r. now r)
 handed-on-shows = record { total = λ κs a. tt; same = λ κs a x y s t. s ∙ sym t }

@@ -5,6 +5,7 @@ use Prim.Native.Nat.{ℕ}
 use mathlib.Core.List.{List}
 use native.Mathlib.Omega.{arith}
 use Rattle.uslp_kinds.specs.Outcome.{Outcome, done, refused}
+use Rattle.uslp_kinds.specs.Answers.{refusal}
 use Rattle.uslp_kinds.specs.declared.Refusal.{Refusal}
 use Rattle.uslp_kinds.specs.declared.Refusal.the-variants.{Truncated}
 use Rattle.uslp_kinds.proofs.Outcomes.{done-one}
@@ -15,7 +16,6 @@ use Rattle.uslp_record.specs.Hearing.{paperHeard, totalsAt, judgedIn, Sl
 use Rattle.uslp_record.specs.declared.Channel.{Channel}
 use Rattle.uslp_record.specs.declared.SlotState.{SlotState}
 use Rattle.uslp_record.specs.declared.SlotState.the-variants.{Heard}
-use Rattle.uslp_record.specs.declared.Arrival.{Arrival}
 use Rattle.uslp_record.specs.declared.Verdict.{Verdict}
 use Rattle.uslp_record.specs.declared.Verdict.the-variants as verdict
 use Rattle.uslp_record.specs.declared.ChannelRecord.{ChannelRecord}
@@ -47,11 +47,15 @@ heard-back (hear-answer.Refused r) = ap hear-answer.Refused (refusal-back r)
 pub keeping-one : {A : Type 0} {o p : Outcome A} {r q : ChannelRecord} → keeping o r ≡ keeping p q → (o ≡ p) × (r ≡ q)
 keeping-one e = (cc, cc)
 
--- two verdicts on a frame that leave the same are the same; the refusal of an answer is a function of it
-abbrev refusalIn : Outcome Arrival → Refusal
+-- two refusals that are the same on paper are the same
+abbrev refusalIn : {A : Type 0} → Outcome A → Refusal
 refusalIn (done a) = Truncated
 refusalIn (refused k vs) = refusalOf k vs
 
+pub refusal-one : {A : Type 0} (x y : Refusal) → refusal {A = A} x ≡ refusal y → x ≡ y
+refusal-one x y e = sym (refusal-back x) ∙ ap refusalIn e ∙ refusal-back y
+
+-- two verdicts on a count that leave the same are the same
 pub verdict-one : (r : ChannelRecord) (k : Channel) (w n : ℕ) (v u : Verdict) → judgedIn r v ≡ judgedIn r u → SlotJudged r k w n v → SlotJudged r k w n u → v ≡ u
 verdict-one r k w n (verdict.Done a i s) (verdict.Done b j t) e p q =
     let ab : a ≡ b = done-one (keeping-one e .0) in
@@ -63,4 +67,4 @@ verdict-one r k w n (verdict.Done a i s) (verdict.Refused y) e p q =
 verdict-one r k w n (verdict.Refused x) (verdict.Done b j t) e p q =
     let h = keeping-one e .0 in let z : _≡_ {A = ℕ} 0 1 = cc in absurd (omega arith)
 verdict-one r k w n (verdict.Refused x) (verdict.Refused y) e p q =
-    ap verdict.Refused (sym (refusal-back x) ∙ ap refusalIn (keeping-one e .0) ∙ refusal-back y)
+    ap verdict.Refused (refusal-one x y (keeping-one e .0))

@@ -1,6 +1,6 @@
 -- `uslp_channel::judge_frame` meets its contract: the frame is counted for its channel.
 -- Assumes nothing.
-use Rattle.uslp_channel.proofs.Heard.{counted-done, counted-refused, in-slots}
+use Rattle.uslp_channel.proofs.Heard.{counted-done, counted-refused, in-slots, slot-of}
 use borrow.Author.Needs.{needs}
 use Rattle.uslp_channel.proofs.judge_frame.Statement.{statement}
 use Rattle.uslp_channel.proofs.judge_frame.Tie as tie
@@ -26,7 +26,8 @@ returns c =
     let a = k .before .before .before .args in (
       counted-done (a .channels) (a .frame) (k .before .channel-of .result) (k .before .channel-of .ensures) (k .judge-count .result) (k .judge-count .ensures .0) _ _ _ _
           (c .before .before .counted .given .1) (c .frame-arrival .ensures),
-      in-slots (a .channels) (k .before .channel-of .result) _ _ (k .judge-count .result) (k .judge-count .ensures .1) _ _ _ (c .before .before .counted .given .1),
+      in-slots (a .channels) (a .frame .«primary_header») (k .before .channel-of .result) (k .before .channel-of .ensures) (k .judge-count .result) (k .judge-count .ensures .1) _ _ _ (c .before .before .counted .given .1),
+      slot-of (a .channels) (a .frame .«primary_header») (k .before .channel-of .result) (k .before .channel-of .ensures) (k .judge-count .result) (k .judge-count .ensures .1) _ _ _ (c .before .before .counted .given .1),
     )
 
 returns-2 : tie.Need-returns-2
@@ -34,6 +35,7 @@ returns-2 c =
     let k = c .before .before .before in
     let a = k .before .before .before .args in (
       counted-refused (a .channels) (a .frame) (k .before .channel-of .result) (k .before .channel-of .ensures) (k .judge-count .result) (k .judge-count .ensures .0) _ (c .before .counted2 .given .1),
+      tt,
       tt,
     )
 
