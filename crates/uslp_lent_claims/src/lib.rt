@@ -1,0 +1,1 @@
+// What the promises of the lent forms settle. No function.
