@@ -6,7 +6,7 @@ use mathlib.Core.Bool.{Bool, true, false, cond}
 use mathlib.Core.List.{List, [], _++_}
 use native.Mathlib.Omega.{arith}
 use lib.ListN.{length, take, drop, length-take}
-use Rattle.uslp_kinds.specs.Outcome.{Written, refused, leaving}
+use Rattle.uslp_kinds.specs.Outcome.{Written}
 use Rattle.uslp_header.specs.declared.PrimaryHeader.{PrimaryHeader}
 use Rattle.uslp_frame.specs.Frame.{frameWriting}
 use Rattle.uslp_record.specs.declared.ChannelRecord.{ChannelRecord}
@@ -35,7 +35,7 @@ use Rattle.uslp_bench.specs.declared.command.FrameCommand.{FrameCommand}
 use Rattle.uslp_bench.specs.declared.command.ChannelCommand.{ChannelCommand}
 use Rattle.uslp_bench.specs.declared.command.ChannelCommand.the-variants.{Open, Close, Hear, Show, Total}
 use Rattle.uslp_bench.specs.declared.command.Command.{Command}
-use Rattle.uslp_bench.specs.Commands.{commandIn, octetsCommandText, octetsReply, frReply, Writing, writingText, writingLeft, hwWriting, frameWritten}
+use Rattle.uslp_bench.specs.Commands.{commandIn, octetsCommandText, octetsReply, frReply, Writing, writingText, writingLeft, hwWriting, maybeOctets, frameWritten}
 use Rattle.uslp_bench.specs.Bench.{Reply, Replied, frameReply, channelReply, commandReply, lineReply}
 
 -- a word compared with a name: the row of the name is taken, or passed
@@ -89,8 +89,8 @@ module _ (line : List ℕ) (rest : Rest) (limit : ℕ) where
 
     pub frame-made : (left : List ℕ) → left ≡ octetsAfter line (dataRest line rest limit) d
         → (n : ℕ) → n ≡ words .count
-        → (reserved chosen : Bool) → reserved ≡ chosen → (given : Written ℕ)
-        → asked (words .trouble) (words .room) (cond chosen given (frameWriting (words .frame) (take n left) (buffer (words .room)))) ≡ frameWritten reserved line rest limit d given
+        → (reserved chosen : Bool) → reserved ≡ chosen → (given : List ℕ)
+        → asked (words .trouble) (words .room) (maybeOctets chosen given (frameWriting (words .frame) (take n left) (buffer (words .room)))) ≡ frameWritten reserved line rest limit d given
     unfolding frameWritten
     frame-made left e1 n e2 reserved chosen e3 given = rw (sym e3, e2, e1, ew)
 
@@ -113,9 +113,9 @@ module _ (t : Trouble) (n : ℕ) (z : Bool) (ez : z ≡ isTrouble t) (q : Writin
       let hold' = rw long at hold in
       subst (λ (x : Writing). Wrote x s end text b (held ++ drop k b)) e (rw (sym ez ∙ h) (p', rw (ek, hold')))
 
--- a value that no answer shows
-abbrev pub unused : Written ℕ
-unused = leaving (refused 0 []) []
+-- octets that no answer shows
+abbrev pub unused : List ℕ
+unused = []
 
 module _ (line : List ℕ) (r : ChannelRecord) (o b : List ℕ) {a : Answered} {s text octets buf : List ℕ} where
   -- a reply to the command that a match found is one to the command that it looked at
@@ -151,7 +151,7 @@ module _ (line : List ℕ) (rest : Rest) (r : ChannelRecord) (o : List ℕ) wher
     answers-of e p = subst (λ (y : ChannelCommand). Answers (channelReply y line rest r o []) a s text octets) (sym e) p
 
     pub replied-channel : (b : List ℕ) (k : ChannelCommand) → Answers (channelReply k line rest r o []) a s text octets
-        → Replied (λ (given : Written ℕ). channelReply k line rest r o b) a s text octets b
+        → Replied (λ (given : List ℕ). channelReply k line rest r o b) a s text octets b
     replied-channel b k p =
-        subst (λ (q : Reply). Replied (λ (given : Written ℕ). q) a s text octets b) (with-buffer b k)
+        subst (λ (q : Reply). Replied (λ (given : List ℕ). q) a s text octets b) (with-buffer b k)
         (record { given = unused; keeps = p .0; told = p .1; reads = p .2; writes = refl })

@@ -3,7 +3,6 @@ use mathlib.Core.Path.{_≡_}
 use Prim.Native.Nat.{ℕ}
 use mathlib.Core.List.{List}
 use lib.ListN.{length}
-use Rattle.uslp_kinds.specs.Outcome.{Written}
 use Rattle.uslp_record.specs.declared.ChannelRecord.{ChannelRecord}
 use Rattle.uslp_words.specs.Words.{wordFrom, textOf}
 use Rattle.uslp_arguments.specs.Arguments.{octetsAfter}
@@ -30,8 +29,8 @@ pub record Reply : Type 0 where
   pub octets : List ℕ
   pub buf : List ℕ
 
--- a command that leaves the record alone; `given` is what the writer of rw wrote
-abbrev pub frameReply : FrameCommand → List ℕ → Rest → ChannelRecord → List ℕ → List ℕ → Written ℕ → Reply
+-- a command that leaves the record alone; `given` are the octets that rw leaves
+abbrev pub frameReply : FrameCommand → List ℕ → Rest → ChannelRecord → List ℕ → List ℕ → List ℕ → Reply
 frameReply (Octets k) line rest r o b given = record { next = r; text = octetsReply k line rest o; octets = octetsAfter line rest o; buf = b }
 frameReply Fr line rest r o b given = record { next = r; text = frReply line rest o; octets = hearLeft line rest o; buf = b }
 frameReply Hw line rest r o b given =
@@ -54,13 +53,13 @@ channelReply Hear line rest r o b = withBuffers (hearReply line rest r o) (hearL
 channelReply Show line rest r o b = record { next = r; text = showText line rest r; octets = o; buf = b }
 channelReply Total line rest r o b = record { next = r; text = totalText line rest r; octets = o; buf = b }
 
-abbrev pub commandReply : Command → List ℕ → Rest → ChannelRecord → List ℕ → List ℕ → Written ℕ → Reply
+abbrev pub commandReply : Command → List ℕ → Rest → ChannelRecord → List ℕ → List ℕ → List ℕ → Reply
 commandReply (Frame k) line rest r o b given = frameReply k line rest r o b given
 commandReply (Channel k) line rest r o b given = channelReply k line rest r o b
 commandReply Unknown line rest r o b given = record { next = r; text = troubleText trouble.Command; octets = o; buf = b }
 
 -- the first word names the command, and the others are its arguments
-abbrev pub lineReply : List ℕ → ChannelRecord → List ℕ → List ℕ → Written ℕ → Reply
+abbrev pub lineReply : List ℕ → ChannelRecord → List ℕ → List ℕ → List ℕ → Reply
 lineReply line r o b given =
     commandReply
     (commandIn (textOf line (wordFrom line 0)))
@@ -71,9 +70,9 @@ lineReply line r o b given =
     b
     given
 
--- a line was answered so; only rw depends on what was given
-pub record Replied (reply : Written ℕ → Reply) (r : Answered) (found text octets buf : List ℕ) : Type 0 where
-  pub given : Written ℕ
+-- a line was answered so; only rw depends on the octets that it left
+pub record Replied (reply : List ℕ → Reply) (r : Answered) (found text octets buf : List ℕ) : Type 0 where
+  pub given : List ℕ
   pub keeps : r .next ≡ reply given .next
   pub told : Told (reply given .text) 0 found (r .len) text
   pub reads : octets ≡ reply given .octets

@@ -13,7 +13,7 @@ use Rattle.uslp_arguments.specs.declared.Trouble.{Trouble}
 use Rattle.uslp_arguments.specs.declared.Trouble.the-variants as trouble
 use Rattle.uslp_arguments.specs.declared.Rest.{Rest}
 use Rattle.uslp_answers.specs.Texts.{writtenText}
-use Rattle.uslp_bench_frames.specs.Commands.{crcText, hrText, drText, frText, buffer, headerWritten, leftBy}
+use Rattle.uslp_bench_frames.specs.Commands.{crcText, hrText, drText, frText, buffer, headerWritten, leftBy, withOctets}
 use Rattle.uslp_bench_channels.specs.Commands.{textUnless}
 use Rattle.uslp_text.specs.Text.{text, Told}
 use Rattle.uslp_bench.specs.declared.command.OctetsCommand.{OctetsCommand}
@@ -92,20 +92,23 @@ hwWriting line rest limit =
       frame = headerWritten (headerOf ids flags) (total .value) (buffer (room .value));
     }
 
--- fw and the words of a frame; rw leaves what its writer wrote, which is a parameter
-unfoldable pub frameWritten : Bool → List ℕ → Rest → ℕ → List ℕ → Written ℕ → Writing
+abbrev pub maybeOctets : Bool → List ℕ → Written ℕ → Written ℕ
+maybeOctets reserved given w = cond reserved (withOctets given w) w
+
+-- fw and the words of a frame; rw answers the same, with the octets that it leaves as a parameter
+unfoldable pub frameWritten : Bool → List ℕ → Rest → ℕ → List ℕ → List ℕ → Writing
 frameWritten reserved line rest limit d given =
     let words = frameWords line rest limit (length d) in
     record {
       trouble = words .trouble;
       room = words .room;
       frame =
-          cond reserved given
+          maybeOctets reserved given
           (frameWriting (words .frame) (take (words .count) (octetsAfter line (dataRest line rest limit) d)) (buffer (words .room)));
     }
 
--- some frame is told and left as it is written
-pub record FrameTold (writing : Written ℕ → Writing) (found : List ℕ) (end : ℕ) (text : List ℕ) (b left : List ℕ) : Type 0 where
-  pub given : Written ℕ
+-- some octets are left, and told
+pub record FrameTold (writing : List ℕ → Writing) (found : List ℕ) (end : ℕ) (text : List ℕ) (b left : List ℕ) : Type 0 where
+  pub given : List ℕ
   pub told : Told (writingText (writing given)) 0 found end text
   pub stands : left ≡ writingLeft (writing given) b

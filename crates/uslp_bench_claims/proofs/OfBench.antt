@@ -1,4 +1,4 @@
--- The promise of `uslp_bench::answer` settles each line but those of rw, of which it settles what is told by what the writer wrote.
+-- The promise of `uslp_bench::answer` settles each line but those of rw, of which it settles all but the octets that are left in the buffer.
 -- Assumes nothing.
 use mathlib.Core.Path.{_≡_, refl, sym, ap, _∙_}
 use Prim.Native.Nat.{ℕ, _+_, min}
@@ -9,7 +9,6 @@ use contract.Lifetimes.{Lfts}
 use denote.Ref.{now}
 use borrow.Fn.Kinds.{Dens}
 use Rattle.uslp_octets.specs.Octets.{overlaid}
-use Rattle.uslp_kinds.specs.Outcome.{Written}
 use Rattle.uslp_record.specs.declared.ChannelRecord.{ChannelRecord}
 use Rattle.uslp_arguments.specs.declared.Rest.{Rest}
 use Rattle.uslp_words.specs.Words.{wordFrom, textOf}
@@ -32,8 +31,8 @@ reserves (Frame (Write reserved)) = reserved
 reserves (Channel k) = false
 reserves Unknown = false
 
--- no other command depends on what that writer wrote
-unreserved : (k : Command) → reserves k ≡ false → (line : List ℕ) (rest : Rest) (r : ChannelRecord) (o b : List ℕ) (w v : Written ℕ)
+-- no other command depends on the octets that are left
+unreserved : (k : Command) → reserves k ≡ false → (line : List ℕ) (rest : Rest) (r : ChannelRecord) (o b : List ℕ) (w v : List ℕ)
     → commandReply k line rest r o b w ≡ commandReply k line rest r o b v
 unfolding frameWritten
 unreserved (Frame (Octets k)) e line rest r o b w v = refl

@@ -3,7 +3,6 @@ use Prim.Native.Nat.{ℕ}
 use Prim.Native.String.{String}
 use mathlib.Core.List.{List, [], _∷_}
 use lib.ListN.{replicate}
-use Rattle.uslp_kinds.specs.Outcome.{Written, refused, leaving}
 use Rattle.uslp_record.specs.declared.ChannelRecord.{ChannelRecord}
 use Rattle.uslp_text.specs.Text.{text}
 use Rattle.uslp_bench.specs.Bench.{lineReply}
@@ -12,9 +11,9 @@ use Rattle.uslp_bench.specs.Bench.{lineReply}
 abbrev pub Exchange : Type 0
 Exchange = String × String
 
--- only rw asks what its writer wrote, and no line here is one
-abbrev unasked : Written ℕ
-unasked = leaving (refused 0 []) []
+-- only rw asks for the octets that it left, and no line here is one
+abbrev unasked : List ℕ
+unasked = []
 
 -- the answers from a record on
 abbrev pub answersFrom : ChannelRecord → List Exchange → List (List ℕ)

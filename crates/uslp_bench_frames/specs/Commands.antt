@@ -10,8 +10,8 @@ use Rattle.uslp_header.specs.declared.PrimaryHeader.{PrimaryHeader}
 use Rattle.uslp_field.specs.Field.{fieldReading}
 use Rattle.uslp_reader.specs.Reader.{frameReading, contentsIn}
 use Rattle.uslp_reader.specs.declared.TransferFrame.{TransferFrame}
-use Rattle.uslp_text.specs.Text.{decimal, Told}
-use Rattle.uslp_answers.specs.Texts.{dataText, answerText, writtenText, headerText, fieldHeaderText, ocfText}
+use Rattle.uslp_text.specs.Text.{decimal}
+use Rattle.uslp_answers.specs.Texts.{dataText, answerText, headerText, fieldHeaderText, ocfText}
 
 abbrev pub crcText : List ℕ → List ℕ
 crcText s = decimal (checksumOf s)
@@ -48,11 +48,13 @@ headerWritten h total s =
     (λ (x : PrimaryHeader). headerWriting x s)
     s
 
--- the octets that a call leaves
+-- the answer of a call, and the octets that it leaves
+abbrev pub answerIn : Written ℕ → Outcome ℕ
+answerIn (leaving o s) = o
+
 abbrev pub leftBy : Written ℕ → List ℕ
 leftBy (leaving o s) = s
 
--- some answer is told, with the octets that the buffer holds
-pub record SomeWritten (held : List ℕ) (found : List ℕ) (end : ℕ) (text : List ℕ) : Type 0 where
-  pub answer : Outcome ℕ
-  pub told : Told (writtenText (leaving answer held)) 0 found end text
+-- the same answer, with other octets left
+abbrev pub withOctets : List ℕ → Written ℕ → Written ℕ
+withOctets held w = leaving (answerIn w) held

@@ -16,7 +16,7 @@ ghost use Rattle.uslp_header.specs.Header.{lengthSetting, headerWriting};
 ghost use Rattle.uslp_frame.specs.Frame.{frameWriting};
 ghost use Rattle.uslp_text.specs.Text.{Told};
 ghost use Rattle.uslp_answers.specs.Texts.{writtenText};
-ghost use Rattle.uslp_bench_frames.specs.Commands.{buffer, thenWritten, headerWritten, leftBy, SomeWritten};
+ghost use Rattle.uslp_bench_frames.specs.Commands.{buffer, thenWritten, headerWritten, leftBy, answerIn, withOctets};
 
 pub fn hw(header: PrimaryHeader, total: usize, buf: &mut [u8], out: &mut [u8]) -> usize
     ensures { λ r. ⌜ Told (writtenText (headerWritten header total (buffer (length (now (buf .entry)))))) 0 (now (out .entry)) r (now (out .exit)) × (now (buf .exit) ≡ leftBy (headerWritten header total (buffer (length (now (buf .entry)))))) ⌝ }
@@ -53,9 +53,9 @@ pub fn fw(frame: TransferFrameCreator, data: &[u8], buf: &mut [u8], out: &mut [u
     put_written(answer, buf, out)
 }
 
-// The same through a reserved data area. What is told is the buffer that stands, whatever `data_mut`, which has no last contents, left in it.
+// The same through a reserved data area: the answer is that of fw, told with the octets that `data_mut`, which has no last contents, left.
 pub fn rw(frame: TransferFrameCreator, data: &[u8], buf: &mut [u8], out: &mut [u8]) -> usize
-    ensures { λ r. ⌜ SomeWritten (now (buf .exit)) (now (out .entry)) r (now (out .exit)) ⌝ }
+    ensures { λ r. ⌜ Told (writtenText (withOctets (now (buf .exit)) (frameWriting frame (now («data» .entry)) (buffer (length (now (buf .entry))))))) 0 (now (out .entry)) r (now (out .exit)) ⌝ }
 {
     fill(0xEE, buf);
     let answer = write_reserved(frame, data, buf);
@@ -63,7 +63,9 @@ pub fn rw(frame: TransferFrameCreator, data: &[u8], buf: &mut [u8], out: &mut [u
 }
 
 // Reserves, puts the data into the area, finishes.
-fn write_reserved(frame: TransferFrameCreator, data: &[u8], buf: &mut [u8]) -> LengthAnswer {
+fn write_reserved(frame: TransferFrameCreator, data: &[u8], buf: &mut [u8]) -> LengthAnswer
+    ensures { λ r. ⌜ paperLength r ≡ answerIn (frameWriting frame (now («data» .entry)) (now (buf .entry))) ⌝ }
+{
     match TransferFrameCreatorWithReservedData::new(frame, data.len(), buf) {
         ReservedAnswer::Refused(refusal) => LengthAnswer::Refused(refusal),
         ReservedAnswer::Done(reserved) => {

@@ -2,13 +2,13 @@
 -- Assumes nothing.
 use mathlib.Core.Path.{_≡_, refl}
 use Prim.Native.Nat.{ℕ, _-_, _≤_}
-use mathlib.Core.Bool.{Bool, true, false, cond}
+use mathlib.Core.Bool.{Bool, true, false}
+use mathlib.Core.List.{List}
 use native.Mathlib.Omega.{arith}
 use lib.ListN.{length, take}
-use Rattle.uslp_kinds.specs.Outcome.{Written, leaving}
 use Rattle.uslp_frame.specs.Frame.{frameWriting}
-use Rattle.uslp_bench_frames.specs.Commands.{buffer}
-use Rattle.uslp_bench.specs.Commands.{frameWritten}
+use Rattle.uslp_bench_frames.specs.Commands.{buffer, withOctets}
+use Rattle.uslp_bench.specs.Commands.{maybeOctets, frameWritten}
 use Rattle.uslp_bench.proofs.Laws.{asked, room-within, data-within, frame-made, wrote-trouble, wrote-fit, unused}
 use borrow.Author.Needs.{needs}
 use Rattle.uslp_bench.proofs.frames.answer_frame.Statement.{statement}
@@ -17,8 +17,8 @@ use Rattle.uslp_bench.proofs.frames.answer_frame.Tie as tie
 -- the words make what is asked, whatever is given
 made : (w : tie.After-frame-words) (n : ℕ) → n ≡ w .frame-words .result .count
     → let a = w .before .before .before .before .before .before .args in let r = w .frame-words .result in
-    (chosen : Bool) → a .reserved ≡ chosen → (given : Written ℕ)
-    → asked (r .trouble) (r .room) (cond chosen given (frameWriting (r .frame) (take n (w .frame-words .last .1 .1 .1 .0)) (buffer (r .room)))) ≡ frameWritten (a .reserved) (a .line .now) (a .rest) (length (a .buf .now)) (a .octets .now) given
+    (chosen : Bool) → a .reserved ≡ chosen → (given : List ℕ)
+    → asked (r .trouble) (r .room) (maybeOctets chosen given (frameWriting (r .frame) (take n (w .frame-words .last .1 .1 .1 .0)) (buffer (r .room)))) ≡ frameWritten (a .reserved) (a .line .now) (a .rest) (length (a .buf .now)) (a .octets .now) given
 made w n en =
     let a = w .before .before .before .before .before .before .args in
     let o = w .frame-words .ensures in
@@ -89,10 +89,9 @@ returns-2 c =
     let t = c .before .before .before .before .before .before .before .before .before .before .before .before in
     let w = t .before .before .before in
     let r = w .frame-words .result in
-    let x = c .before .before .before .before .rw .ensures in
-    let g = leaving (x .answer) (c .before .before .before .before .rw .last .1 .1 .0) in
-    let m = made w _ refl true (c .before .before .before .before .before .before .before .before .before .if2 .taken) g in
-    let p = wrote-fit (r .trouble) (r .room) _ (t .is-trouble .ensures) _ _ (c .before .before .before .before .before .before .before .before .before .before .before .if1 .left) (λ (n : ℕ). g) m (fits w .1) (r .room - 0) (omega arith) (x .told) refl in
+    let g = c .before .before .before .before .rw .last .1 .1 .0 in
+    let m = made w (r .count - 0) (omega arith) true (c .before .before .before .before .before .before .before .before .before .if2 .taken) g in
+    let p = wrote-fit (r .trouble) (r .room) _ (t .is-trouble .ensures) _ _ (c .before .before .before .before .before .before .before .before .before .before .before .if1 .left) (λ (n : ℕ). withOctets g (frameWriting (r .frame) (take (r .count - 0) (w .frame-words .last .1 .1 .1 .0)) (buffer n))) m (fits w .1) (r .room - 0) (omega arith) (c .before .before .before .before .rw .ensures) refl in
     (record { given = g; told = p .0; stands = p .1 }, w .frame-words .ensures .1)
 
 sub-fw : tie.Need-sub-fw
