@@ -13,8 +13,8 @@ use Rattle.uslp_kinds.specs.Kinds.{sourceOrDestNumber, bypassNumber, commandNum
 use Rattle.uslp_kinds.specs.declared.Refusal.{Refusal}
 use Rattle.uslp_kinds.specs.declared.Refusal.the-variants.{ShortSource, ShortTarget, Truncated, BadVersion, BadProtocol, BadChecksum, FrameTooShort, BadCount, BadPointer, BadField, OcfMissing, TooLong, NotOpen, OtherWidth, AlreadyOpen, TableFull, TotalFull}
 use Rattle.uslp_kinds.proofs.Refusal.{the-type}
-use Rattle.uslp_header.specs.Header.{flag}
-use Rattle.uslp_header.specs.declared.PrimaryHeader.{PrimaryHeader}
+use Rattle.uslp_primary_header.specs.Header.{flag}
+use Rattle.uslp_primary_header.specs.declared.PrimaryHeader.{PrimaryHeader}
 use Rattle.uslp_answers.specs.Texts.{fieldText, fieldsText, headerText}
 
 fields-append : (a b : List ℕ) → fieldsText (a ++ b) ≡ fieldsText a ++ fieldsText b

@@ -7,9 +7,9 @@ use Rattle.uslp_kinds.specs.declared.FhpOrLvo.{FhpOrLvo}
 use Rattle.uslp_kinds.specs.declared.FhpOrLvo.the-variants as pointer
 use Rattle.uslp_kinds.specs.declared.OperationalControlField.{OperationalControlField}
 use Rattle.uslp_kinds.specs.declared.OperationalControlField.the-variants as control
-use Rattle.uslp_header.specs.Header.{flag}
-use Rattle.uslp_header.specs.declared.PrimaryHeader.{PrimaryHeader}
-use Rattle.uslp_field.specs.declared.TransferFrameDataFieldHeader.{TransferFrameDataFieldHeader}
+use Rattle.uslp_primary_header.specs.Header.{flag}
+use Rattle.uslp_primary_header.specs.declared.PrimaryHeader.{PrimaryHeader}
+use Rattle.uslp_data_field_header.specs.declared.TransferFrameDataFieldHeader.{TransferFrameDataFieldHeader}
 use Rattle.uslp_text.specs.Text.{text, decimal}
 use Rattle.uslp_words.specs.Words.{octetsText}
 use Rattle.uslp_arguments.specs.Arguments.{troubleName}

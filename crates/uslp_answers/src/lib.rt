@@ -1,7 +1,7 @@
 // What an answer line says: refusals, the fields of headers, and what did not fit.
 use uslp_arguments::Trouble;
-use uslp_field::TransferFrameDataFieldHeader;
-use uslp_header::PrimaryHeader;
+use uslp_data_field_header::TransferFrameDataFieldHeader;
+use uslp_primary_header::PrimaryHeader;
 use uslp_kinds::FhpOrLvo;
 use uslp_kinds::LengthAnswer;
 use uslp_kinds::OperationalControlField;

@@ -12,8 +12,8 @@ use Rattle.uslp_kinds.specs.declared.ConstructionRule.{ConstructionRule}
 use Rattle.uslp_kinds.specs.declared.UslpProtocolId.{UslpProtocolId}
 use Rattle.uslp_kinds.specs.declared.FhpOrLvo.{FhpOrLvo}
 use Rattle.uslp_kinds.specs.declared.OperationalControlField.{OperationalControlField}
-use Rattle.uslp_header.specs.Header.{flag}
-use Rattle.uslp_header.specs.declared.PrimaryHeader.{PrimaryHeader}
+use Rattle.uslp_primary_header.specs.Header.{flag}
+use Rattle.uslp_primary_header.specs.declared.PrimaryHeader.{PrimaryHeader}
 use Rattle.uslp_arguments.specs.Arguments.{troubledBy, numberWord, flagWord, optionalWord, octetsWord, octetsAfter}
 use Rattle.uslp_arguments.specs.Headers.{largest, octetOf, idWords, flagWords, headerOf, pointerOf, ocfOf, idOr, idTrouble, fieldWords, frameWords, dataRest}
 use Rattle.uslp_arguments.specs.declared.Trouble.{Trouble}

@@ -11,10 +11,10 @@ use Rattle.uslp_kinds.specs.declared.FhpOrLvo.{FhpOrLvo}
 use Rattle.uslp_kinds.specs.declared.FhpOrLvo.the-variants as pointer
 use Rattle.uslp_kinds.specs.declared.OperationalControlField.{OperationalControlField}
 use Rattle.uslp_kinds.specs.declared.OperationalControlField.the-variants as control
-use Rattle.uslp_header.specs.Header.{flag}
-use Rattle.uslp_header.specs.declared.PrimaryHeader.{PrimaryHeader}
-use Rattle.uslp_field.specs.declared.TransferFrameDataFieldHeader.{TransferFrameDataFieldHeader}
-use Rattle.uslp_frame.specs.declared.TransferFrameCreator.{TransferFrameCreator}
+use Rattle.uslp_primary_header.specs.Header.{flag}
+use Rattle.uslp_primary_header.specs.declared.PrimaryHeader.{PrimaryHeader}
+use Rattle.uslp_data_field_header.specs.declared.TransferFrameDataFieldHeader.{TransferFrameDataFieldHeader}
+use Rattle.uslp_writer.specs.declared.TransferFrameCreator.{TransferFrameCreator}
 use Rattle.uslp_arguments.specs.Arguments.{troubledBy, numberWord, flagWord, optionalWord, octetsWord}
 use Rattle.uslp_arguments.specs.declared.Trouble.{Trouble}
 use Rattle.uslp_arguments.specs.declared.Trouble.the-variants.{Nothing, Scid, Dest, Vc, Map, Bypass, Pcc, OcfFlag, Width, Count, Rule, Pid, Ptr, Ocf, Fecf, BufLen}

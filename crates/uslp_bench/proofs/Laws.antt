@@ -7,8 +7,8 @@ use mathlib.Core.List.{List, [], _++_}
 use native.Mathlib.Omega.{arith}
 use lib.ListN.{length, take, drop, length-take}
 use Rattle.uslp_kinds.specs.Outcome.{Written}
-use Rattle.uslp_header.specs.declared.PrimaryHeader.{PrimaryHeader}
-use Rattle.uslp_frame.specs.Frame.{frameWriting}
+use Rattle.uslp_primary_header.specs.declared.PrimaryHeader.{PrimaryHeader}
+use Rattle.uslp_writer.specs.Frame.{frameWriting}
 use Rattle.uslp_record.specs.declared.ChannelRecord.{ChannelRecord}
 use Rattle.uslp_text.specs.Text.{Told}
 use Rattle.uslp_words.specs.Words.{sameText, wordFrom, textOf}

@@ -5,7 +5,7 @@ use mathlib.Core.Bool.{Bool, true, false, cond}
 use mathlib.Core.List.{List, [], _∷_, _++_}
 use lib.ListN.{length, take, drop}
 use Rattle.uslp_kinds.specs.Outcome.{Written, firstOf}
-use Rattle.uslp_frame.specs.Frame.{frameWriting}
+use Rattle.uslp_writer.specs.Frame.{frameWriting}
 use Rattle.uslp_words.specs.Words.{sameText}
 use Rattle.uslp_arguments.specs.Arguments.{isTrouble, endedAt, numberWord, flagWord, octetsWord, octetsAfter}
 use Rattle.uslp_arguments.specs.Headers.{largest, idWords, flagWords, headerOf, frameWords, dataRest}

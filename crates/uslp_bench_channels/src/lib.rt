@@ -12,8 +12,8 @@ use uslp_arguments::is_trouble;
 use uslp_arguments::last_octets;
 use uslp_arguments::number;
 use uslp_arguments::octet_of;
-use uslp_channel::FrameArrival;
-use uslp_channel::FrameHeard;
+use uslp_hearing::FrameArrival;
+use uslp_hearing::FrameHeard;
 use uslp_record::Channel;
 use uslp_record::ChannelRecord;
 use uslp_record::RecordAnswer;
@@ -25,7 +25,7 @@ use uslp_text::put_text;
 ghost use mathlib.Core.Path.{_≡_};
 ghost use mathlib.Core.List.{[], _∷_, _++_};
 ghost use Rattle.uslp_record.specs.Record.{paperDone};
-ghost use Rattle.uslp_channel.specs.Channel.{paperFrameHeard};
+ghost use Rattle.uslp_hearing.specs.Channel.{paperFrameHeard};
 ghost use Rattle.uslp_text.specs.Text.{text, Told};
 ghost use Rattle.uslp_answers.specs.Texts.{fieldsText, answerText};
 ghost use Rattle.uslp_bench_channels.specs.Commands.{channelWords, openReply, closeReply, arrivalText, hearOctets, hearReply, hearLeft, stateText, showText, totalText};
@@ -142,7 +142,7 @@ pub fn hear(
 fn hear_frame(octets: &[u8], has_fecf: bool, channels: ChannelRecord, out: &mut [u8]) -> Answered
     ensures { λ r. ⌜ (r .next ≡ hearOctets (now (octets .entry)) «has_fecf» channels .next) × Told (hearOctets (now (octets .entry)) «has_fecf» channels .text) 0 (now (out .entry)) (r .len) (now (out .exit)) ⌝ }
 {
-    let hearing = uslp_channel::hear(channels, octets, has_fecf);
+    let hearing = uslp_hearing::hear(channels, octets, has_fecf);
     let answer = hearing.answer;
     let next = hearing.next;
     Answered {

@@ -4,9 +4,9 @@ use mathlib.Core.Path.{_≡_, refl}
 use Rattle.uslp_checksum.specs.Checksum.{bit, step, lows, bits, feed, checksumOf}
 use Rattle.uslp_text.specs.Text.{widthIn}
 use Rattle.uslp_words.specs.Words.{numberAfter, numberIn, isHex, octetsAnswer, run}
-use Rattle.uslp_header.specs.Header.{headerReading, headerChecking, lengthSetting, headerWriting}
-use Rattle.uslp_field.specs.Field.{fieldReading}
-use Rattle.uslp_frame.specs.Frame.{frameWriting}
+use Rattle.uslp_primary_header.specs.Header.{headerReading, headerChecking, lengthSetting, headerWriting}
+use Rattle.uslp_data_field_header.specs.Field.{fieldReading}
+use Rattle.uslp_writer.specs.Frame.{frameWriting}
 use Rattle.uslp_reader.specs.Reader.{frameReading}
 use Rattle.uslp_record.specs.Slots.{find, vacant, emptyRecord}
 use Rattle.uslp_record.specs.Record.{opening, closing, showing, missingIn, tooMuchIn, consoleTotal}

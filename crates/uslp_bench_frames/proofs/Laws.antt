@@ -6,14 +6,14 @@ use mathlib.Core.List.{List, _++_}
 use native.Mathlib.Omega.{arith}
 use lib.ListN.{length, take, drop, length-append, length-take, length-drop}
 use Rattle.uslp_kinds.specs.Outcome.{Outcome, done, refused, Written, leaving, written}
-use Rattle.uslp_frame.specs.Frame.{frameWriting}
-use Rattle.uslp_frame.specs.Reserved.{reserving, finishLength, finishing, filled}
-use Rattle.uslp_frame.specs.declared.TransferFrameCreator.{TransferFrameCreator}
-use Rattle.uslp_frame.specs.declared.TransferFrameCreatorWithReservedData.{TransferFrameCreatorWithReservedData}
-use Rattle.uslp_frame.proofs.Paths.{reserved-through}
-use Rattle.uslp_frame.proofs.Filled.{data-room, reserve-fill-finish, reserve-refused}
-use Rattle.uslp_header.specs.Header.{headerWriting}
-use Rattle.uslp_header.specs.declared.PrimaryHeader.{PrimaryHeader}
+use Rattle.uslp_writer.specs.Frame.{frameWriting}
+use Rattle.uslp_writer.specs.Reserved.{reserving, finishLength, finishing, filled}
+use Rattle.uslp_writer.specs.declared.TransferFrameCreator.{TransferFrameCreator}
+use Rattle.uslp_writer.specs.declared.TransferFrameCreatorWithReservedData.{TransferFrameCreatorWithReservedData}
+use Rattle.uslp_writer.proofs.Paths.{reserved-through}
+use Rattle.uslp_writer.proofs.Filled.{data-room, reserve-fill-finish, reserve-refused}
+use Rattle.uslp_primary_header.specs.Header.{headerWriting}
+use Rattle.uslp_primary_header.specs.declared.PrimaryHeader.{PrimaryHeader}
 use Rattle.uslp_text.specs.Text.{Told}
 use Rattle.uslp_text.proofs.Telling.{told-as}
 use Rattle.uslp_answers.specs.Texts.{answerText, writtenText}

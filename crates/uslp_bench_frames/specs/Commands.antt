@@ -5,9 +5,9 @@ use mathlib.Core.List.{List, _++_}
 use lib.ListN.{replicate}
 use Rattle.uslp_kinds.specs.Outcome.{Outcome, done, refused, andThen, Written, leaving}
 use Rattle.uslp_checksum.specs.Checksum.{checksumOf}
-use Rattle.uslp_header.specs.Header.{headerReading, headerChecking, lengthSetting, headerWriting}
-use Rattle.uslp_header.specs.declared.PrimaryHeader.{PrimaryHeader}
-use Rattle.uslp_field.specs.Field.{fieldReading}
+use Rattle.uslp_primary_header.specs.Header.{headerReading, headerChecking, lengthSetting, headerWriting}
+use Rattle.uslp_primary_header.specs.declared.PrimaryHeader.{PrimaryHeader}
+use Rattle.uslp_data_field_header.specs.Field.{fieldReading}
 use Rattle.uslp_reader.specs.Reader.{frameReading, contentsIn}
 use Rattle.uslp_reader.specs.declared.TransferFrame.{TransferFrame}
 use Rattle.uslp_text.specs.Text.{decimal}

@@ -1,10 +1,10 @@
 // The commands that write into a buffer, which holds 0xEE everywhere before: hw, fw, rw.
 use uslp_answers::put_written;
-use uslp_frame::ReservedAnswer;
-use uslp_frame::TransferFrameCreator;
-use uslp_frame::TransferFrameCreatorWithReservedData;
-use uslp_header::HeaderAnswer;
-use uslp_header::PrimaryHeader;
+use uslp_writer::ReservedAnswer;
+use uslp_writer::TransferFrameCreator;
+use uslp_writer::TransferFrameCreatorWithReservedData;
+use uslp_primary_header::HeaderAnswer;
+use uslp_primary_header::PrimaryHeader;
 use uslp_kinds::LengthAnswer;
 use uslp_octets::copy_octets;
 use uslp_words::fill;
@@ -12,8 +12,8 @@ ghost use mathlib.Core.Path.{_≡_};
 ghost use lib.ListN.{length};
 ghost use Rattle.uslp_kinds.specs.Outcome.{leaving};
 ghost use Rattle.uslp_kinds.specs.Answers.{paperLength};
-ghost use Rattle.uslp_header.specs.Header.{lengthSetting, headerWriting};
-ghost use Rattle.uslp_frame.specs.Frame.{frameWriting};
+ghost use Rattle.uslp_primary_header.specs.Header.{lengthSetting, headerWriting};
+ghost use Rattle.uslp_writer.specs.Frame.{frameWriting};
 ghost use Rattle.uslp_text.specs.Text.{Told};
 ghost use Rattle.uslp_answers.specs.Texts.{writtenText};
 ghost use Rattle.uslp_bench_frames.specs.Commands.{buffer, thenWritten, headerWritten, leftBy, answerIn, withOctets};

@@ -1,8 +1,8 @@
 // Runs the cases that are not proved as theorems, and prints what each answers: the refusal's number, or 0.
-use uslp_field::TransferFrameDataFieldHeader;
-use uslp_frame::TransferFrameCreator;
-use uslp_header::HeaderAnswer;
-use uslp_header::PrimaryHeader;
+use uslp_data_field_header::TransferFrameDataFieldHeader;
+use uslp_writer::TransferFrameCreator;
+use uslp_primary_header::HeaderAnswer;
+use uslp_primary_header::PrimaryHeader;
 use uslp_kinds::BypassSequenceControlFlag;
 use uslp_kinds::ConstructionRule;
 use uslp_kinds::FhpOrLvo;

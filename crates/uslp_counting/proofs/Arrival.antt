@@ -20,8 +20,8 @@ use Rattle.uslp_record.proofs.Hears.{hearing-full, hearing-done}
 use Rattle.uslp_layout.specs.Layout.{dataStart}
 use Rattle.uslp_reader.specs.Reader.{frameReading, contentsIn}
 use Rattle.uslp_reader.specs.declared.TransferFrame.{TransferFrame}
-use Rattle.uslp_channel.specs.Channel.{channelOf, frameArrival, withFrame, afterReading, frameHearing}
-use Rattle.uslp_channel.specs.declared.FrameArrival.the-variants as frame-arrival
+use Rattle.uslp_hearing.specs.Channel.{channelOf, frameArrival, withFrame, afterReading, frameHearing}
+use Rattle.uslp_hearing.specs.declared.FrameArrival.the-variants as frame-arrival
 use Rattle.uslp_counting.specs.History.{answerOf, handing, Sender, frameAt}
 use Rattle.uslp_counting.proofs.Ahead.{half-twice, ahead-on, ahead-back}
 use Rattle.uslp_roundtrip.proofs.Complete.{complete, complete-contents}

@@ -17,8 +17,8 @@ use Rattle.uslp_record.specs.declared.Arrival.the-variants.{New, Repeat, Late}
 use Rattle.uslp_record.proofs.Hears.{hearing-wide, hearing-width}
 use Rattle.uslp_reader.specs.Reader.{frameReading, contentsIn}
 use Rattle.uslp_reader.specs.declared.TransferFrame.{TransferFrame}
-use Rattle.uslp_channel.specs.Channel.{channelOf, withFrame, afterReading, frameHearing}
-use Rattle.uslp_channel.specs.declared.FrameArrival.{FrameArrival}
+use Rattle.uslp_hearing.specs.Channel.{channelOf, withFrame, afterReading, frameHearing}
+use Rattle.uslp_hearing.specs.declared.FrameArrival.{FrameArrival}
 use Rattle.uslp_counting.specs.History.{recordOf, answerOf, handing}
 use Rattle.uslp_counting.proofs.Slots.{same-one}
 use Rattle.uslp_counting.proofs.Stands.{Stands, stands-hearing}

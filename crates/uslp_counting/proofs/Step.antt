@@ -16,8 +16,8 @@ use Rattle.uslp_record.specs.declared.SlotState.the-variants.{Opened, Heard}
 use Rattle.uslp_record.specs.declared.ChannelRecord.{ChannelRecord}
 use Rattle.uslp_record.specs.declared.Arrival.{Arrival}
 use Rattle.uslp_record.specs.declared.Arrival.the-variants.{New, Repeat, Late}
-use Rattle.uslp_channel.specs.Channel.{frameArrival, frameHearing}
-use Rattle.uslp_channel.specs.declared.FrameArrival.{FrameArrival}
+use Rattle.uslp_hearing.specs.Channel.{frameArrival, frameHearing}
+use Rattle.uslp_hearing.specs.declared.FrameArrival.{FrameArrival}
 use Rattle.uslp_counting.specs.Places.{furthest, aheadOf, Close, lost}
 use Rattle.uslp_counting.specs.History.{Handing, recordOf, answerOf, handing, Sender, frameAt, following, handings}
 use Rattle.uslp_counting.proofs.Arrival.{countAt, readAt, Room, handing-new, arrival-done, arrival-repeat, arrival-new, arrival-late}

@@ -17,8 +17,8 @@ use Rattle.uslp_record.specs.declared.ChannelRecord.{ChannelRecord}
 use Rattle.uslp_record.specs.declared.Arrival.{Arrival}
 use Rattle.uslp_reader.specs.Reader.{frameReading}
 use Rattle.uslp_reader.specs.declared.TransferFrame.{TransferFrame}
-use Rattle.uslp_channel.specs.Channel.{channelOf, frameArrival, withFrame, afterReading, frameHearing}
-use Rattle.uslp_channel.specs.declared.FrameArrival.{FrameArrival}
+use Rattle.uslp_hearing.specs.Channel.{channelOf, frameArrival, withFrame, afterReading, frameHearing}
+use Rattle.uslp_hearing.specs.declared.FrameArrival.{FrameArrival}
 use Rattle.uslp_counting.specs.History.{Call, recordOf, after}
 use Rattle.uslp_counting.specs.History.Call.{hears, opens, closes}
 

@@ -16,10 +16,10 @@ use Rattle.uslp_kinds.specs.declared.ConstructionRule.the-variants.{NoSegmentat
 use Rattle.uslp_kinds.specs.declared.UslpProtocolId.the-variants.{UserDefinedOctetStream}
 use Rattle.uslp_kinds.specs.declared.FhpOrLvo.the-variants as pointer
 use Rattle.uslp_kinds.specs.declared.OperationalControlField.the-variants.{Absent}
-use Rattle.uslp_header.specs.declared.PrimaryHeader.{PrimaryHeader}
-use Rattle.uslp_header.proofs.Checks.{checks-done}
-use Rattle.uslp_field.specs.Field.{fieldChecking}
-use Rattle.uslp_field.specs.declared.TransferFrameDataFieldHeader.{TransferFrameDataFieldHeader}
+use Rattle.uslp_primary_header.specs.declared.PrimaryHeader.{PrimaryHeader}
+use Rattle.uslp_primary_header.proofs.Checks.{checks-done}
+use Rattle.uslp_data_field_header.specs.Field.{fieldChecking}
+use Rattle.uslp_data_field_header.specs.declared.TransferFrameDataFieldHeader.{TransferFrameDataFieldHeader}
 use Rattle.uslp_layout.proofs.Laws.{cond-le}
 use Rattle.uslp_record.specs.declared.Channel.{Channel}
 use Rattle.uslp_counting.specs.History.{Sender}

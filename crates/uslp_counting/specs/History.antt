@@ -5,8 +5,8 @@ use mathlib.Core.List.{List, [], _∷_, _++_}
 use Prim.Native.Nat.{ℕ, suc, _+_, _-_, _^_, _%_, _<_}
 use Rattle.uslp_kinds.specs.Outcome.{Outcome, done, refused}
 use Rattle.uslp_kinds.specs.declared.OperationalControlField.{OperationalControlField}
-use Rattle.uslp_header.specs.declared.PrimaryHeader.{PrimaryHeader}
-use Rattle.uslp_field.specs.declared.TransferFrameDataFieldHeader.{TransferFrameDataFieldHeader}
+use Rattle.uslp_primary_header.specs.declared.PrimaryHeader.{PrimaryHeader}
+use Rattle.uslp_data_field_header.specs.declared.TransferFrameDataFieldHeader.{TransferFrameDataFieldHeader}
 use Rattle.uslp_layout.specs.Layout.{layout, WellFormed}
 use Rattle.uslp_reader.specs.Reader.{frameReading, contentsIn}
 use Rattle.uslp_reader.specs.declared.TransferFrame.{TransferFrame}
@@ -14,9 +14,9 @@ use Rattle.uslp_record.specs.Slots.{sameChannel, find, stateAt}
 use Rattle.uslp_record.specs.Record.{Kept, keeping, opening, closing, missingOf}
 use Rattle.uslp_record.specs.declared.Channel.{Channel}
 use Rattle.uslp_record.specs.declared.ChannelRecord.{ChannelRecord}
-use Rattle.uslp_channel.specs.Channel.{channelOf, frameHearing}
-use Rattle.uslp_channel.specs.declared.FrameArrival.{FrameArrival}
-use Rattle.uslp_channel.specs.declared.FrameArrival.the-variants.{New, Repeat, Late}
+use Rattle.uslp_hearing.specs.Channel.{channelOf, frameHearing}
+use Rattle.uslp_hearing.specs.declared.FrameArrival.{FrameArrival}
+use Rattle.uslp_hearing.specs.declared.FrameArrival.the-variants.{New, Repeat, Late}
 
 -- a call of the console
 pub data Call : Type 0 where

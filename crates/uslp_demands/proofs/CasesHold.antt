@@ -1,8 +1,8 @@
 -- Document 01's cases hold, computed over the definitions that the promises cite.
 use mathlib.Core.Path.{refl}
-use Rattle.uslp_header.specs.Header.{countSetting, headerReading}
-use Rattle.uslp_field.specs.Field.{fieldReading}
-use Rattle.uslp_frame.specs.Frame.{frameWriting}
+use Rattle.uslp_primary_header.specs.Header.{countSetting, headerReading}
+use Rattle.uslp_data_field_header.specs.Field.{fieldReading}
+use Rattle.uslp_writer.specs.Frame.{frameWriting}
 use Rattle.uslp_reader.specs.Reader.{frameReading}
 use Rattle.uslp_record.specs.Slots.{find}
 use Rattle.uslp_record.specs.Hearing.{hearing}

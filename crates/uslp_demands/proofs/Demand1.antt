@@ -12,19 +12,19 @@ use Rattle.uslp_kinds.specs.Outcome.{Outcome, done, refused, firstOf}
 use Rattle.uslp_kinds.proofs.Outcomes.{refused-keeps}
 use Rattle.uslp_kinds.specs.declared.Refusal.{Refusal}
 use Rattle.uslp_kinds.specs.declared.LengthAnswer.the-variants.{Refused}
-use Rattle.uslp_header.specs.Header.{table, lenHeader, headerChecks, headerWriting}
-use Rattle.uslp_header.specs.declared.PrimaryHeader.{PrimaryHeader}
-use Rattle.uslp_header.proofs as header
-use Rattle.uslp_field.specs.Field.{fieldTable, lenField, fieldChecks, fieldWriting}
-use Rattle.uslp_field.specs.declared.TransferFrameDataFieldHeader.{TransferFrameDataFieldHeader}
-use Rattle.uslp_field.proofs as field
+use Rattle.uslp_primary_header.specs.Header.{table, lenHeader, headerChecks, headerWriting}
+use Rattle.uslp_primary_header.specs.declared.PrimaryHeader.{PrimaryHeader}
+use Rattle.uslp_primary_header.proofs as header
+use Rattle.uslp_data_field_header.specs.Field.{fieldTable, lenField, fieldChecks, fieldWriting}
+use Rattle.uslp_data_field_header.specs.declared.TransferFrameDataFieldHeader.{TransferFrameDataFieldHeader}
+use Rattle.uslp_data_field_header.proofs as field
 use Rattle.uslp_layout.specs.Layout.{withFecf}
-use Rattle.uslp_frame.specs.Frame.{total, frameChecks, frameOctets, frameWriting}
-use Rattle.uslp_frame.specs.Reserved.{reservation, reservedOctets, reserving, finishLength}
-use Rattle.uslp_frame.specs.declared.TransferFrameCreator.{TransferFrameCreator}
-use Rattle.uslp_frame.specs.declared.TransferFrameCreatorWithReservedData.{TransferFrameCreatorWithReservedData}
-use Rattle.uslp_frame.specs.declared.ReservedAnswer.the-variants as reserved-answer
-use Rattle.uslp_frame.proofs as frame
+use Rattle.uslp_writer.specs.Frame.{total, frameChecks, frameOctets, frameWriting}
+use Rattle.uslp_writer.specs.Reserved.{reservation, reservedOctets, reserving, finishLength}
+use Rattle.uslp_writer.specs.declared.TransferFrameCreator.{TransferFrameCreator}
+use Rattle.uslp_writer.specs.declared.TransferFrameCreatorWithReservedData.{TransferFrameCreatorWithReservedData}
+use Rattle.uslp_writer.specs.declared.ReservedAnswer.the-variants as reserved-answer
+use Rattle.uslp_writer.proofs as frame
 use Rattle.uslp_demands.specs.Promise.{Allows}
 
 -- the last check of a writing: room

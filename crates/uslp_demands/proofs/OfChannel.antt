@@ -1,4 +1,4 @@
--- The promises of `uslp_channel` settle each call. `handed_on` hands back a part of the lent octets: what it shows is settled.
+-- The promises of `uslp_hearing` settle each call. `handed_on` hands back a part of the lent octets: what it shows is settled.
 use mathlib.Core.Path.{_≡_, refl, sym, ap, _∙_}
 use mathlib.Core.Bool.{false}
 use mathlib.Core.List.{List, [], _∷_}
@@ -9,11 +9,11 @@ use Rattle.uslp_kinds.proofs.Back.{back, one-to-one}
 use Rattle.uslp_reader.specs.Reader.{frameReading}
 use Rattle.uslp_record.specs.declared.Channel.{Channel}
 use Rattle.uslp_record.proofs.Back.{keeping-one}
-use Rattle.uslp_channel.specs.Channel.{paperFrameHeard}
-use Rattle.uslp_channel.specs.declared.FrameArrival.the-variants.{New, Repeat, Late}
-use Rattle.uslp_channel.specs.declared.FrameHeard.the-variants.{Done, Refused}
-use Rattle.uslp_channel.proofs.Heard.{heard-back, frame-verdict-one}
-use Rattle.uslp_channel.proofs as hearing
+use Rattle.uslp_hearing.specs.Channel.{paperFrameHeard}
+use Rattle.uslp_hearing.specs.declared.FrameArrival.the-variants.{New, Repeat, Late}
+use Rattle.uslp_hearing.specs.declared.FrameHeard.the-variants.{Done, Refused}
+use Rattle.uslp_hearing.proofs.Heard.{heard-back, frame-verdict-one}
+use Rattle.uslp_hearing.proofs as hearing
 use Rattle.uslp_demands.specs.Promise.{at, Allows, Settles, Shows}
 use Rattle.uslp_demands.specs.Samples.{octetsF, some, readF}
 use Rattle.uslp_demands.proofs.Alike.{alike}

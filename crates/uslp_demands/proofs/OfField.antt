@@ -1,4 +1,4 @@
--- The promises of `uslp_field` settle each call, and shut out two tempting wrong answers of each function.
+-- The promises of `uslp_data_field_header` settle each call, and shut out two tempting wrong answers of each function.
 use mathlib.Core.Path.{_≡_, refl, sym, _∙_}
 use mathlib.Core.List.{[], _∷_}
 use Prim.Native.Nat.{ℕ}
@@ -10,11 +10,11 @@ use Rattle.uslp_kinds.specs.declared.UslpProtocolId.the-variants.{UserDefinedOc
 use Rattle.uslp_kinds.specs.declared.FhpOrLvo.the-variants.{Absent, Present}
 use Rattle.uslp_kinds.specs.declared.Refusal.the-variants.{ShortSource, ShortTarget, BadProtocol, BadPointer}
 use Rattle.uslp_kinds.specs.declared.LengthAnswer.the-variants as length-answer
-use Rattle.uslp_field.specs.Field.{paperField, fieldMaking, fieldChecking, fieldReading, fieldWriting}
-use Rattle.uslp_field.specs.declared.TransferFrameDataFieldHeader.{TransferFrameDataFieldHeader}
-use Rattle.uslp_field.specs.declared.DataFieldHeaderAnswer.the-variants as field-answer
-use Rattle.uslp_field.proofs.RoundTrip.{field-back}
-use Rattle.uslp_field.proofs as field
+use Rattle.uslp_data_field_header.specs.Field.{paperField, fieldMaking, fieldChecking, fieldReading, fieldWriting}
+use Rattle.uslp_data_field_header.specs.declared.TransferFrameDataFieldHeader.{TransferFrameDataFieldHeader}
+use Rattle.uslp_data_field_header.specs.declared.DataFieldHeaderAnswer.the-variants as field-answer
+use Rattle.uslp_data_field_header.proofs.RoundTrip.{field-back}
+use Rattle.uslp_data_field_header.proofs as field
 use Rattle.uslp_demands.specs.Promise.{at, Allows, Settles}
 use Rattle.uslp_demands.specs.Samples.{whole, spanning}
 use Rattle.uslp_demands.proofs.Alike.{alike}

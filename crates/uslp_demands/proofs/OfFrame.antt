@@ -1,4 +1,4 @@
--- The promises of `uslp_frame` settle each call, and shut out two tempting wrong answers of each function. `data` and `data_mut` hand
+-- The promises of `uslp_writer` settle each call, and shut out two tempting wrong answers of each function. `data` and `data_mut` hand
 -- back a part of the lent octets: what it shows is settled.
 use mathlib.Core.Path.{_≡_, refl, sym, ap, _∙_}
 use mathlib.Core.Bool.{true, false}
@@ -11,14 +11,14 @@ use Rattle.uslp_kinds.proofs.Back.{back, one-to-one, length-back, leaving-one}
 use Rattle.uslp_kinds.proofs.Outcomes.{done-one}
 use Rattle.uslp_kinds.specs.declared.Refusal.the-variants.{ShortTarget}
 use Rattle.uslp_kinds.specs.declared.LengthAnswer.the-variants as length-answer
-use Rattle.uslp_header.specs.Header.{headerChecking}
+use Rattle.uslp_primary_header.specs.Header.{headerChecking}
 use Rattle.uslp_checksum.specs.Checksum.{bit, step, feed, lows, bits, checksumOf}
-use Rattle.uslp_frame.specs.Frame.{frameLength, frameWriting}
-use Rattle.uslp_frame.specs.Reserved.{paperReserved, reserving, finishLength}
-use Rattle.uslp_frame.specs.declared.TransferFrameCreatorWithReservedData.{TransferFrameCreatorWithReservedData}
-use Rattle.uslp_frame.specs.declared.ReservedAnswer.the-variants as reserved-answer
-use Rattle.uslp_frame.proofs.Paths.{reserved-back}
-use Rattle.uslp_frame.proofs as frame
+use Rattle.uslp_writer.specs.Frame.{frameLength, frameWriting}
+use Rattle.uslp_writer.specs.Reserved.{paperReserved, reserving, finishLength}
+use Rattle.uslp_writer.specs.declared.TransferFrameCreatorWithReservedData.{TransferFrameCreatorWithReservedData}
+use Rattle.uslp_writer.specs.declared.ReservedAnswer.the-variants as reserved-answer
+use Rattle.uslp_writer.proofs.Paths.{reserved-back}
+use Rattle.uslp_writer.proofs as frame
 use Rattle.uslp_demands.specs.Promise.{at, Allows, Settles, Shows}
 use Rattle.uslp_demands.specs.Samples.{frameF, plain, unflagged, zeros}
 use Rattle.uslp_demands.proofs.Alike.{alike}

@@ -1,4 +1,4 @@
--- The promises of `uslp_header` settle each call, and shut out two tempting wrong answers of each function.
+-- The promises of `uslp_primary_header` settle each call, and shut out two tempting wrong answers of each function.
 use mathlib.Core.Path.{_≡_, refl, sym, ap, _∙_}
 use mathlib.Core.Bool.{true, false}
 use mathlib.Core.List.{List, [], _∷_}
@@ -12,11 +12,11 @@ use Rattle.uslp_kinds.specs.declared.BypassSequenceControlFlag.the-variants.{Se
 use Rattle.uslp_kinds.specs.declared.ProtocolControlCommandFlag.the-variants.{TfdfContainsUserData}
 use Rattle.uslp_kinds.specs.declared.Refusal.the-variants.{ShortSource, ShortTarget, Truncated, BadVersion, BadCount, BadField, TooLong}
 use Rattle.uslp_kinds.specs.declared.LengthAnswer.the-variants as length-answer
-use Rattle.uslp_header.specs.Header.{paperHeader, headerMaking, headerChecking, countSetting, lengthSetting, withCount, withLength, headerReading, headerWriting}
-use Rattle.uslp_header.specs.declared.PrimaryHeader.{PrimaryHeader}
-use Rattle.uslp_header.specs.declared.HeaderAnswer.the-variants as header-answer
-use Rattle.uslp_header.proofs.RoundTrip.{header-one}
-use Rattle.uslp_header.proofs as header
+use Rattle.uslp_primary_header.specs.Header.{paperHeader, headerMaking, headerChecking, countSetting, lengthSetting, withCount, withLength, headerReading, headerWriting}
+use Rattle.uslp_primary_header.specs.declared.PrimaryHeader.{PrimaryHeader}
+use Rattle.uslp_primary_header.specs.declared.HeaderAnswer.the-variants as header-answer
+use Rattle.uslp_primary_header.proofs.RoundTrip.{header-one}
+use Rattle.uslp_primary_header.proofs as header
 use Rattle.uslp_demands.specs.Promise.{at, Allows, Settles}
 use Rattle.uslp_demands.specs.Samples.{some, made}
 use Rattle.uslp_demands.proofs.Alike.{alike}

@@ -7,8 +7,8 @@ use Rattle.uslp_kinds.specs.Answers.{paperLength}
 use Rattle.uslp_kinds.proofs.Back.{back, one-to-one, length-back, leaving-one}
 use Rattle.uslp_kinds.specs.declared.LengthAnswer.the-variants as length-answer
 use Rattle.uslp_kinds.specs.declared.Refusal.the-variants.{ShortTarget}
-use Rattle.uslp_header.specs.Header.{headerReading}
-use Rattle.uslp_field.specs.Field.{fieldReading}
+use Rattle.uslp_primary_header.specs.Header.{headerReading}
+use Rattle.uslp_data_field_header.specs.Field.{fieldReading}
 use Rattle.uslp_reader.specs.Reader.{frameReading}
 use Rattle.uslp_text.specs.Text.{widthIn}
 use Rattle.uslp_listing.specs.Listing.{linesFrom, listing, listingOver}

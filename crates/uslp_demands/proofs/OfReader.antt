@@ -11,10 +11,10 @@ use Rattle.uslp_kinds.specs.declared.SourceOrDestField.the-variants.{Source, De
 use Rattle.uslp_kinds.specs.declared.ConstructionRule.the-variants.{PacketSpanningMultipleFrames, NoSegmentation}
 use Rattle.uslp_kinds.specs.declared.OperationalControlField.the-variants.{Absent, Present}
 use Rattle.uslp_kinds.specs.declared.Refusal.the-variants.{ShortSource, Truncated, BadProtocol, FrameTooShort, BadChecksum}
-use Rattle.uslp_header.specs.Header.{headerReading}
-use Rattle.uslp_header.specs.declared.PrimaryHeader.{PrimaryHeader}
-use Rattle.uslp_field.specs.Field.{fieldReading}
-use Rattle.uslp_field.specs.declared.TransferFrameDataFieldHeader.{TransferFrameDataFieldHeader}
+use Rattle.uslp_primary_header.specs.Header.{headerReading}
+use Rattle.uslp_primary_header.specs.declared.PrimaryHeader.{PrimaryHeader}
+use Rattle.uslp_data_field_header.specs.Field.{fieldReading}
+use Rattle.uslp_data_field_header.specs.declared.TransferFrameDataFieldHeader.{TransferFrameDataFieldHeader}
 use Rattle.uslp_reader.specs.Reader.{paperFrame, frameReading}
 use Rattle.uslp_reader.specs.declared.TransferFrame.{TransferFrame}
 use Rattle.uslp_reader.specs.declared.FrameAnswer.the-variants as frame-answer

@@ -10,14 +10,14 @@ use Rattle.uslp_kinds.specs.Answers.{paperLength}
 use Rattle.uslp_kinds.proofs.Back.{leaving-one}
 use Rattle.uslp_kinds.proofs.Outcomes.{not-done}
 use Rattle.uslp_kinds.specs.declared.Refusal.{Refusal}
-use Rattle.uslp_header.specs.Header.{withCount, headerChecking, headerReading}
-use Rattle.uslp_header.specs.declared.PrimaryHeader.{PrimaryHeader}
-use Rattle.uslp_field.specs.Field.{fieldChecking, fieldReading}
-use Rattle.uslp_frame.specs.Frame.{frameWriting}
-use Rattle.uslp_frame.specs.declared.TransferFrameCreator.{TransferFrameCreator}
-use Rattle.uslp_frame.proofs.Lengths.{length-long}
-use Rattle.uslp_frame.proofs.Paths.{writing-refused}
-use Rattle.uslp_frame.proofs as frame
+use Rattle.uslp_primary_header.specs.Header.{withCount, headerChecking, headerReading}
+use Rattle.uslp_primary_header.specs.declared.PrimaryHeader.{PrimaryHeader}
+use Rattle.uslp_data_field_header.specs.Field.{fieldChecking, fieldReading}
+use Rattle.uslp_writer.specs.Frame.{frameWriting}
+use Rattle.uslp_writer.specs.declared.TransferFrameCreator.{TransferFrameCreator}
+use Rattle.uslp_writer.proofs.Lengths.{length-long}
+use Rattle.uslp_writer.proofs.Paths.{writing-refused}
+use Rattle.uslp_writer.proofs as frame
 use Rattle.uslp_reader.specs.Reader.{paperFrame, frameReading}
 use Rattle.uslp_reader.specs.declared.FrameAnswer.the-variants.{Done, Refused}
 use Rattle.uslp_reader.proofs as reader
@@ -27,11 +27,11 @@ use Rattle.uslp_record.specs.Hearing.{hearing}
 use Rattle.uslp_record.specs.declared.ChannelRecord.{ChannelRecord}
 use Rattle.uslp_record.specs.declared.SlotState.{SlotState}
 use Rattle.uslp_record.specs.declared.SlotState.the-variants.{Closed}
-use Rattle.uslp_channel.specs.Channel.{paperFrameHeard, frameHearing}
-use Rattle.uslp_channel.specs.declared.FrameArrival.{FrameArrival}
-use Rattle.uslp_channel.specs.declared.FrameArrival.the-variants.{New, Repeat}
-use Rattle.uslp_channel.specs.declared.FrameHeard.the-variants as heard-answer
-use Rattle.uslp_channel.proofs as channel-proofs
+use Rattle.uslp_hearing.specs.Channel.{paperFrameHeard, frameHearing}
+use Rattle.uslp_hearing.specs.declared.FrameArrival.{FrameArrival}
+use Rattle.uslp_hearing.specs.declared.FrameArrival.the-variants.{New, Repeat}
+use Rattle.uslp_hearing.specs.declared.FrameHeard.the-variants as heard-answer
+use Rattle.uslp_hearing.proofs as channel-proofs
 use Rattle.uslp_demands.specs.Promise.{at, Program, Keeps}
 use Rattle.uslp_demands.specs.Samples.{octetsF, readF, some, plain, zeros}
 use Rattle.uslp_demands.specs.Cases.{lastHeard}

@@ -8,10 +8,10 @@ use Rattle.uslp_kinds.specs.declared.ConstructionRule.the-variants.{PacketSpann
 use Rattle.uslp_kinds.specs.declared.UslpProtocolId.the-variants.{SpacePacketsOrEncapsulation}
 use Rattle.uslp_kinds.specs.declared.FhpOrLvo.the-variants as pointer
 use Rattle.uslp_kinds.specs.declared.OperationalControlField.the-variants.{Absent, Present}
-use Rattle.uslp_header.specs.Header.{withCount, countSetting}
-use Rattle.uslp_header.specs.declared.PrimaryHeader.{PrimaryHeader}
-use Rattle.uslp_frame.specs.Frame.{frameWriting}
-use Rattle.uslp_frame.specs.declared.TransferFrameCreator.{TransferFrameCreator}
+use Rattle.uslp_primary_header.specs.Header.{withCount, countSetting}
+use Rattle.uslp_primary_header.specs.declared.PrimaryHeader.{PrimaryHeader}
+use Rattle.uslp_writer.specs.Frame.{frameWriting}
+use Rattle.uslp_writer.specs.declared.TransferFrameCreator.{TransferFrameCreator}
 use Rattle.uslp_reader.specs.Reader.{frameReading, contentsIn}
 use Rattle.uslp_reader.specs.declared.TransferFrame.{TransferFrame}
 use Rattle.uslp_record.specs.Slots.{put, emptyRecord}

@@ -9,10 +9,10 @@ use Rattle.uslp_kinds.specs.declared.ConstructionRule.the-variants.{PacketSpann
 use Rattle.uslp_kinds.specs.declared.UslpProtocolId.the-variants.{UserDefinedOctetStream, Idle}
 use Rattle.uslp_kinds.specs.declared.FhpOrLvo.the-variants as pointer
 use Rattle.uslp_kinds.specs.declared.OperationalControlField.the-variants.{Absent}
-use Rattle.uslp_header.specs.Header.{withCount}
-use Rattle.uslp_header.specs.declared.PrimaryHeader.{PrimaryHeader}
-use Rattle.uslp_field.specs.declared.TransferFrameDataFieldHeader.{TransferFrameDataFieldHeader}
-use Rattle.uslp_frame.specs.declared.TransferFrameCreator.{TransferFrameCreator}
+use Rattle.uslp_primary_header.specs.Header.{withCount}
+use Rattle.uslp_primary_header.specs.declared.PrimaryHeader.{PrimaryHeader}
+use Rattle.uslp_data_field_header.specs.declared.TransferFrameDataFieldHeader.{TransferFrameDataFieldHeader}
+use Rattle.uslp_writer.specs.declared.TransferFrameCreator.{TransferFrameCreator}
 use Rattle.uslp_reader.specs.declared.TransferFrame.{TransferFrame}
 
 -- frame F: spacecraft 0x1234, destination, channel 5, map 3, count 7 in one octet, rule 7, protocol 4, data 0A F0

@@ -10,8 +10,8 @@ use Rattle.uslp_checksum.specs.Checksum.{checksumOf}
 use Rattle.uslp_kinds.specs.Kinds.{fixedLength}
 use Rattle.uslp_kinds.specs.declared.OperationalControlField.{OperationalControlField}
 use Rattle.uslp_kinds.specs.declared.OperationalControlField.the-variants.{Absent, Present}
-use Rattle.uslp_field.specs.Field.{lenField}
-use Rattle.uslp_field.specs.declared.TransferFrameDataFieldHeader.{TransferFrameDataFieldHeader}
+use Rattle.uslp_data_field_header.specs.Field.{lenField}
+use Rattle.uslp_data_field_header.specs.declared.TransferFrameDataFieldHeader.{TransferFrameDataFieldHeader}
 use Rattle.uslp_layout.specs.Layout.{present, ocfOctets, withFecf}
 
 pub cond-le : (b : Bool) (m n : ℕ) → n ≤ m → cond b m n ≤ m

@@ -8,12 +8,12 @@ use Rattle.uslp_octets.specs.Octets.{AreOctets, octets, pack}
 use Rattle.uslp_checksum.specs.Checksum.{checksumOf}
 use Rattle.uslp_kinds.specs.declared.OperationalControlField.{OperationalControlField}
 use Rattle.uslp_kinds.specs.declared.OperationalControlField.the-variants.{Absent, Present}
-use Rattle.uslp_header.specs.Header.{table, lenHeader, lenFrame}
-use Rattle.uslp_header.specs.Header as header
-use Rattle.uslp_header.specs.declared.PrimaryHeader.{PrimaryHeader}
-use Rattle.uslp_field.specs.Field.{fieldTable, lenField}
-use Rattle.uslp_field.specs.Field as field
-use Rattle.uslp_field.specs.declared.TransferFrameDataFieldHeader.{TransferFrameDataFieldHeader}
+use Rattle.uslp_primary_header.specs.Header.{table, lenHeader, lenFrame}
+use Rattle.uslp_primary_header.specs.Header as header
+use Rattle.uslp_primary_header.specs.declared.PrimaryHeader.{PrimaryHeader}
+use Rattle.uslp_data_field_header.specs.Field.{fieldTable, lenField}
+use Rattle.uslp_data_field_header.specs.Field as field
+use Rattle.uslp_data_field_header.specs.declared.TransferFrameDataFieldHeader.{TransferFrameDataFieldHeader}
 
 -- where data starts
 abbrev pub dataStart : PrimaryHeader → TransferFrameDataFieldHeader → ℕ

@@ -1,6 +1,6 @@
 // Where the parts of a frame stand: one function for each sentence that says so.
-use uslp_field::TransferFrameDataFieldHeader;
-use uslp_header::PrimaryHeader;
+use uslp_data_field_header::TransferFrameDataFieldHeader;
+use uslp_primary_header::PrimaryHeader;
 ghost use mathlib.Core.Path.{_≡_};
 ghost use mathlib.Core.Bool.{cond};
 ghost use Rattle.uslp_layout.specs.Layout.{dataStart, needed};

@@ -5,12 +5,12 @@ use denote.Ref.{now}
 use Rattle.uslp_kinds.specs.Answers.{paperLength}
 use Rattle.uslp_kinds.specs.declared.LengthAnswer.the-variants as length-answer
 use Rattle.uslp_kinds.proofs.Back.{back, one-to-one, refusal-back, length-back}
-use Rattle.uslp_header.specs.Header.{paperHeader}
-use Rattle.uslp_header.specs.declared.HeaderAnswer.the-variants as header-answer
-use Rattle.uslp_header.proofs.RoundTrip.{header-one}
-use Rattle.uslp_field.specs.Field.{paperField}
-use Rattle.uslp_field.specs.declared.DataFieldHeaderAnswer.the-variants as field-answer
-use Rattle.uslp_field.proofs.RoundTrip.{field-back}
+use Rattle.uslp_primary_header.specs.Header.{paperHeader}
+use Rattle.uslp_primary_header.specs.declared.HeaderAnswer.the-variants as header-answer
+use Rattle.uslp_primary_header.proofs.RoundTrip.{header-one}
+use Rattle.uslp_data_field_header.specs.Field.{paperField}
+use Rattle.uslp_data_field_header.specs.declared.DataFieldHeaderAnswer.the-variants as field-answer
+use Rattle.uslp_data_field_header.proofs.RoundTrip.{field-back}
 use Rattle.uslp_reader.specs.Reader.{paperFrame}
 use Rattle.uslp_reader.specs.declared.FrameAnswer.the-variants as frame-answer
 use Rattle.uslp_reader.proofs.Done.{frame-back}

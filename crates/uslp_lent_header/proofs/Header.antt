@@ -2,9 +2,9 @@
 use mathlib.Core.Path.{_≡_}
 use Rattle.uslp_walks.proofs.Lent.{Kind}
 use Rattle.uslp_kinds.specs.Outcome.{Outcome}
-use Rattle.uslp_header.specs.declared.PrimaryHeader.{PrimaryHeader}
-use Rattle.uslp_header.proofs.PrimaryHeader as T
-use Rattle.uslp_header.proofs.PrimaryHeader.Laws as T′
+use Rattle.uslp_primary_header.specs.declared.PrimaryHeader.{PrimaryHeader}
+use Rattle.uslp_primary_header.proofs.PrimaryHeader as T
+use Rattle.uslp_primary_header.proofs.PrimaryHeader.Laws as T′
 use Rattle.uslp_lent_header.specs.Setting.{headerLeft, headerOff, paperSet}
 use Rattle.uslp_lent_header.specs.declared.Decided.{Decided}
 use Rattle.uslp_lent_header.specs.declared.SetAnswer.{SetAnswer}

@@ -1,7 +1,7 @@
 -- Setting a lent header: of the outcome on the header by value, what is left behind the reference, and what is answered.
 use Rattle.uslp_kinds.specs.Outcome.{Outcome, done, refused}
 use Rattle.uslp_kinds.specs.Answers.{refusal}
-use Rattle.uslp_header.specs.declared.PrimaryHeader.{PrimaryHeader}
+use Rattle.uslp_primary_header.specs.declared.PrimaryHeader.{PrimaryHeader}
 use Rattle.uslp_lent_header.specs.declared.SetAnswer.{SetAnswer}
 use Rattle.uslp_lent_header.specs.declared.SetAnswer.the-variants as set-answer
 

@@ -9,10 +9,10 @@ use Rattle.uslp_walks.proofs.Held.{Holder, Result, variants}
 use Rattle.uslp_kinds.specs.Outcome.{Outcome}
 use Rattle.uslp_kinds.proofs.LengthAnswer as Length
 use Rattle.uslp_kinds.proofs.LengthAnswer.Laws as Length′
-use Rattle.uslp_header.proofs.HeaderAnswer as Header
-use Rattle.uslp_header.proofs.HeaderAnswer.Laws as Header′
-use Rattle.uslp_field.proofs.DataFieldHeaderAnswer as Field
-use Rattle.uslp_field.proofs.DataFieldHeaderAnswer.Laws as Field′
+use Rattle.uslp_primary_header.proofs.HeaderAnswer as Header
+use Rattle.uslp_primary_header.proofs.HeaderAnswer.Laws as Header′
+use Rattle.uslp_data_field_header.proofs.DataFieldHeaderAnswer as Field
+use Rattle.uslp_data_field_header.proofs.DataFieldHeaderAnswer.Laws as Field′
 use Rattle.uslp_reader.specs.Reader.{paperFrame}
 use Rattle.uslp_reader.specs.declared.TransferFrame.{TransferFrame}
 use Rattle.uslp_reader.proofs.FrameAnswer as Frame

@@ -1,6 +1,6 @@
 // A reader that keeps the lent octets beside what was found in them: thin, each function hands both fields to `parts`.
-use uslp_field::DataFieldHeaderAnswer;
-use uslp_header::HeaderAnswer;
+use uslp_data_field_header::DataFieldHeaderAnswer;
+use uslp_primary_header::HeaderAnswer;
 use uslp_kinds::LengthAnswer;
 use uslp_kinds::OperationalControlField;
 use uslp_kinds::Refusal;
@@ -9,8 +9,8 @@ use uslp_reader::FrameAnswer;
 ghost use mathlib.Core.Path.{_≡_};
 ghost use lib.ListN.{length};
 ghost use Rattle.uslp_kinds.specs.Answers.{paperLength};
-ghost use Rattle.uslp_header.specs.Header.{paperHeader, lenFrame};
-ghost use Rattle.uslp_field.specs.Field.{paperField};
+ghost use Rattle.uslp_primary_header.specs.Header.{paperHeader, lenFrame};
+ghost use Rattle.uslp_data_field_header.specs.Field.{paperField};
 ghost use Rattle.uslp_reader.specs.Reader.{paperFrame, frameReading, contentsRead};
 ghost use Rattle.uslp_lent_reader.specs.Kept.{ofFrame, paperId, paperRole, paperOcf};
 

@@ -10,7 +10,7 @@ use lib.ListN.{length, drop, length-append, length-drop, drop-of-length-le}
 use lib.Seq.{drop-drop}
 use Rattle.uslp_kinds.specs.Outcome.{done, refused}
 use Rattle.uslp_kinds.specs.Kinds.{fixedLength}
-use Rattle.uslp_header.specs.Header.{lenFrame}
+use Rattle.uslp_primary_header.specs.Header.{lenFrame}
 use Rattle.uslp_reader.specs.Reader.{frameReading}
 use Rattle.uslp_reader.specs.declared.TransferFrame.{TransferFrame}
 use Rattle.uslp_reader.proofs.Done.{read-done}

@@ -5,7 +5,7 @@ use mathlib.Core.List.{List, [], _∷_, _++_}
 use lib.ListN.{length, drop}
 use lib.Dec.{ltb}
 use Rattle.uslp_kinds.specs.Outcome.{Outcome, done, refused, Written, written, firstOf}
-use Rattle.uslp_header.specs.Header.{lenFrame}
+use Rattle.uslp_primary_header.specs.Header.{lenFrame}
 use Rattle.uslp_reader.specs.Reader.{frameReading}
 use Rattle.uslp_reader.specs.declared.TransferFrame.{TransferFrame}
 use Rattle.uslp_text.specs.Text.{text, decimal}

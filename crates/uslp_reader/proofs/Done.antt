@@ -13,10 +13,10 @@ use Rattle.uslp_checksum.specs.Checksum.{checksumOf}
 use Rattle.uslp_kinds.specs.Outcome.{Outcome, done, refused}
 use Rattle.uslp_kinds.proofs.Outcomes.{not-done, done-one, passed}
 use Rattle.uslp_kinds.proofs.Back.{back, refusal-back}
-use Rattle.uslp_header.specs.Header.{lenHeader, lenFrame, headerReading}
-use Rattle.uslp_header.specs.declared.PrimaryHeader.{PrimaryHeader}
-use Rattle.uslp_field.specs.Field.{fieldReading}
-use Rattle.uslp_field.specs.declared.TransferFrameDataFieldHeader.{TransferFrameDataFieldHeader}
+use Rattle.uslp_primary_header.specs.Header.{lenHeader, lenFrame, headerReading}
+use Rattle.uslp_primary_header.specs.declared.PrimaryHeader.{PrimaryHeader}
+use Rattle.uslp_data_field_header.specs.Field.{fieldReading}
+use Rattle.uslp_data_field_header.specs.declared.TransferFrameDataFieldHeader.{TransferFrameDataFieldHeader}
 use Rattle.uslp_layout.specs.Layout.{needed}
 use Rattle.uslp_reader.specs.Reader.{paperFrame, frameWith, frameReading}
 use Rattle.uslp_reader.specs.declared.TransferFrame.{TransferFrame}

@@ -1,9 +1,9 @@
 // The reader on a slice and numbers: headers, OCF, and where the data stand in the lent octets.
 use uslp_checksum::checksum;
-use uslp_field::DataFieldHeaderAnswer;
-use uslp_field::TransferFrameDataFieldHeader;
-use uslp_header::HeaderAnswer;
-use uslp_header::PrimaryHeader;
+use uslp_data_field_header::DataFieldHeaderAnswer;
+use uslp_data_field_header::TransferFrameDataFieldHeader;
+use uslp_primary_header::HeaderAnswer;
+use uslp_primary_header::PrimaryHeader;
 use uslp_kinds::OperationalControlField;
 use uslp_kinds::Refusal;
 use uslp_kinds::SourceOrDestField;
@@ -14,8 +14,8 @@ ghost use Prim.Native.Nat.{_+_, _≤_};
 ghost use mathlib.Core.Bool.{cond};
 ghost use lib.ListN.{length, drop};
 ghost use Rattle.uslp_kinds.specs.Outcome.{done};
-ghost use Rattle.uslp_header.specs.Header.{lenHeader, lenFrame, headerReading};
-ghost use Rattle.uslp_field.specs.Field.{fieldReading};
+ghost use Rattle.uslp_primary_header.specs.Header.{lenHeader, lenFrame, headerReading};
+ghost use Rattle.uslp_data_field_header.specs.Field.{fieldReading};
 ghost use Rattle.uslp_reader.specs.Reader.{paperFrame, ocfAt, frameWith, frameReading, contentsIn, contentsRead};
 ghost use Rattle.uslp_layout.specs.Layout.{dataStart};
 

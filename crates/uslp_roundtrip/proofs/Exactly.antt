@@ -13,10 +13,10 @@ use Rattle.uslp_checksum.specs.Checksum.{checksumOf}
 use Rattle.uslp_checksum.proofs.Laws.{residue}
 use Rattle.uslp_kinds.specs.Outcome.{done}
 use Rattle.uslp_kinds.specs.declared.OperationalControlField.{OperationalControlField}
-use Rattle.uslp_header.specs.Header.{lenHeader, lenFrame, headerReading}
-use Rattle.uslp_header.specs.declared.PrimaryHeader.{PrimaryHeader}
-use Rattle.uslp_field.specs.Field.{fieldReading}
-use Rattle.uslp_field.specs.declared.TransferFrameDataFieldHeader.{TransferFrameDataFieldHeader}
+use Rattle.uslp_primary_header.specs.Header.{lenHeader, lenFrame, headerReading}
+use Rattle.uslp_primary_header.specs.declared.PrimaryHeader.{PrimaryHeader}
+use Rattle.uslp_data_field_header.specs.Field.{fieldReading}
+use Rattle.uslp_data_field_header.specs.declared.TransferFrameDataFieldHeader.{TransferFrameDataFieldHeader}
 use Rattle.uslp_layout.specs.Layout.{needed, layout}
 use Rattle.uslp_reader.specs.Reader.{frameWith, frameReading, contentsIn}
 use Rattle.uslp_reader.specs.declared.TransferFrame.{TransferFrame}

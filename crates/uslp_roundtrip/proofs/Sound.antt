@@ -16,12 +16,12 @@ use Rattle.uslp_checksum.proofs.Laws.{residue}
 use Rattle.uslp_kinds.specs.Outcome.{done}
 use Rattle.uslp_kinds.specs.declared.OperationalControlField.{OperationalControlField}
 use Rattle.uslp_kinds.specs.declared.OperationalControlField.the-variants.{Absent, Present}
-use Rattle.uslp_header.specs.Header.{table, lenHeader, lenFrame, field, headerReading}
-use Rattle.uslp_header.specs.declared.PrimaryHeader.{PrimaryHeader}
-use Rattle.uslp_header.proofs.RoundTrip as header-trip
-use Rattle.uslp_field.specs.Field.{fieldTable, lenField, fieldReading}
-use Rattle.uslp_field.specs.declared.TransferFrameDataFieldHeader.{TransferFrameDataFieldHeader}
-use Rattle.uslp_field.proofs.RoundTrip as field-trip
+use Rattle.uslp_primary_header.specs.Header.{table, lenHeader, lenFrame, field, headerReading}
+use Rattle.uslp_primary_header.specs.declared.PrimaryHeader.{PrimaryHeader}
+use Rattle.uslp_primary_header.proofs.RoundTrip as header-trip
+use Rattle.uslp_data_field_header.specs.Field.{fieldTable, lenField, fieldReading}
+use Rattle.uslp_data_field_header.specs.declared.TransferFrameDataFieldHeader.{TransferFrameDataFieldHeader}
+use Rattle.uslp_data_field_header.proofs.RoundTrip as field-trip
 use Rattle.uslp_layout.specs.Layout.{dataStart, needed, present, ocfOctets, body, withFecf, layout, WellFormed}
 use Rattle.uslp_reader.specs.Reader.{ocfAt, frameWith, frameReading, contentsIn}
 use Rattle.uslp_reader.specs.declared.TransferFrame.{TransferFrame}

@@ -10,14 +10,14 @@ use Rattle.uslp_octets.specs.Octets.{AreOctets}
 use Rattle.uslp_kinds.specs.Outcome.{done, leaving}
 use Rattle.uslp_kinds.specs.declared.OperationalControlField.{OperationalControlField}
 use Rattle.uslp_kinds.specs.declared.OperationalControlField.the-variants.{Absent, Present}
-use Rattle.uslp_header.specs.Header.{lenFrame, field}
-use Rattle.uslp_header.specs.declared.PrimaryHeader.{PrimaryHeader}
-use Rattle.uslp_field.specs.declared.TransferFrameDataFieldHeader.{TransferFrameDataFieldHeader}
+use Rattle.uslp_primary_header.specs.Header.{lenFrame, field}
+use Rattle.uslp_primary_header.specs.declared.PrimaryHeader.{PrimaryHeader}
+use Rattle.uslp_data_field_header.specs.declared.TransferFrameDataFieldHeader.{TransferFrameDataFieldHeader}
 use Rattle.uslp_layout.specs.Layout.{needed, present, layout, WellFormed}
-use Rattle.uslp_frame.specs.Frame.{flagged, total, completed, ocfMissing, frameOctets, frameWriting}
-use Rattle.uslp_frame.specs.declared.TransferFrameCreator.{TransferFrameCreator}
-use Rattle.uslp_frame.proofs.Headers.{completed-passes}
-use Rattle.uslp_frame.proofs.Paths.{Through, writing-through, writing-done}
+use Rattle.uslp_writer.specs.Frame.{flagged, total, completed, ocfMissing, frameOctets, frameWriting}
+use Rattle.uslp_writer.specs.declared.TransferFrameCreator.{TransferFrameCreator}
+use Rattle.uslp_writer.proofs.Headers.{completed-passes}
+use Rattle.uslp_writer.proofs.Paths.{Through, writing-through, writing-done}
 use Rattle.uslp_reader.specs.Reader.{frameReading, contentsIn}
 use Rattle.uslp_reader.specs.declared.TransferFrame.{TransferFrame}
 use Rattle.uslp_roundtrip.specs.Bounds.{Bounds}

@@ -5,7 +5,7 @@ use Prim.Native.Nat.{ℕ, _^_, _<_}
 use Rattle.uslp_octets.specs.Octets.{AreOctets}
 use Rattle.uslp_kinds.specs.declared.FhpOrLvo.the-variants as pointer
 use Rattle.uslp_kinds.specs.declared.OperationalControlField.the-variants as ocf
-use Rattle.uslp_frame.specs.declared.TransferFrameCreator.{TransferFrameCreator}
+use Rattle.uslp_writer.specs.declared.TransferFrameCreator.{TransferFrameCreator}
 
 pub record Bounds (c : TransferFrameCreator) (contents : List ℕ) : Type 0 where
   pub spacecraft-fits : c .«primary_header» .«spacecraft_id» < 65536

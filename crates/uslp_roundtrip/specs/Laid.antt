@@ -5,9 +5,9 @@ use mathlib.Core.List.{List}
 use Prim.Native.Nat.{ℕ, _<_}
 use lib.ListN.{length, take}
 use Rattle.uslp_kinds.specs.declared.OperationalControlField.{OperationalControlField}
-use Rattle.uslp_header.specs.Header.{lenFrame}
-use Rattle.uslp_header.specs.declared.PrimaryHeader.{PrimaryHeader}
-use Rattle.uslp_field.specs.declared.TransferFrameDataFieldHeader.{TransferFrameDataFieldHeader}
+use Rattle.uslp_primary_header.specs.Header.{lenFrame}
+use Rattle.uslp_primary_header.specs.declared.PrimaryHeader.{PrimaryHeader}
+use Rattle.uslp_data_field_header.specs.declared.TransferFrameDataFieldHeader.{TransferFrameDataFieldHeader}
 use Rattle.uslp_layout.specs.Layout.{dataStart, layout, WellFormed}
 use Rattle.uslp_reader.specs.declared.TransferFrame.{TransferFrame}
 

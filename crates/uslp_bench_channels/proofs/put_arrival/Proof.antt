@@ -3,7 +3,7 @@
 use mathlib.Core.Path.{ap}
 use mathlib.Core.List.{List, _∷_}
 use Prim.Native.Nat.{ℕ}
-use Rattle.uslp_channel.specs.declared.FrameArrival.{FrameArrival}
+use Rattle.uslp_hearing.specs.declared.FrameArrival.{FrameArrival}
 use Rattle.uslp_text.proofs.Telling.{told-as, told-more}
 use Rattle.uslp_answers.specs.Texts.{dataText}
 use Rattle.uslp_bench_channels.specs.Commands.{arrivalText}

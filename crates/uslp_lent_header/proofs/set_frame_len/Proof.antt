@@ -1,7 +1,7 @@
 -- `set_frame_len` meets its contract, by the walk of `uslp_walks`.
 use Rattle.uslp_walks.proofs.Param.{u64}
 use Rattle.uslp_walks.proofs.Lent.{by-setter}
-use Rattle.uslp_header.specs.Header.{lengthSetting}
+use Rattle.uslp_primary_header.specs.Header.{lengthSetting}
 use Rattle.uslp_lent_header.proofs.Header.{header, Settled}
 use Rattle.uslp_lent_header.proofs.decide_frame_len.Symbol as callee
 use Rattle.uslp_lent_header.proofs.decide_frame_len.Met as callee-thm

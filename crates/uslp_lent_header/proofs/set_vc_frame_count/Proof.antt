@@ -1,7 +1,7 @@
 -- `set_vc_frame_count` meets its contract, by the walk of `uslp_walks`.
 use Rattle.uslp_walks.proofs.Param.{u8, u64}
 use Rattle.uslp_walks.proofs.Lent.{by-setter2}
-use Rattle.uslp_header.specs.Header.{countSetting}
+use Rattle.uslp_primary_header.specs.Header.{countSetting}
 use Rattle.uslp_lent_header.proofs.Header.{header, Settled}
 use Rattle.uslp_lent_header.proofs.decide_vc_frame_count.Symbol as callee
 use Rattle.uslp_lent_header.proofs.decide_vc_frame_count.Met as callee-thm

@@ -1,6 +1,6 @@
 -- `settle` meets its contract: each arm knows which outcome it was passed.
 use mathlib.Core.Path.{sym, ap}
-use Rattle.uslp_header.specs.Header.{paperHeader}
+use Rattle.uslp_primary_header.specs.Header.{paperHeader}
 use Rattle.uslp_lent_header.specs.Setting.{headerLeft, headerOff}
 use borrow.Author.Needs.{needs}
 use Rattle.uslp_lent_header.proofs.settle.Statement.{statement}

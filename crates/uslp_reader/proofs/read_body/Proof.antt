@@ -7,7 +7,7 @@ use mathlib.Core.List.{[], _∷_}
 use native.Mathlib.Omega.{arith}
 use Rattle.uslp_checksum.specs.Checksum.{checksumOf}
 use Rattle.uslp_kinds.specs.Outcome.{refused}
-use Rattle.uslp_header.specs.Header.{lenFrame}
+use Rattle.uslp_primary_header.specs.Header.{lenFrame}
 use Rattle.uslp_layout.specs.Layout.{needed}
 use Rattle.uslp_reader.proofs.Parts.{first-part, last-two}
 use Rattle.uslp_reader.proofs.Paths.{reading-too-short, reading-checksum, reading-frame}

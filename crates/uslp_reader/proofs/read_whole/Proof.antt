@@ -6,10 +6,10 @@ use mathlib.Core.List.{[], _∷_}
 use native.Mathlib.Omega.{arith}
 use lib.ListN.{length, drop}
 use Rattle.uslp_kinds.specs.Outcome.{refused}
-use Rattle.uslp_header.specs.Header.{lenHeader}
-use Rattle.uslp_header.proofs.RoundTrip.{read-long}
-use Rattle.uslp_field.specs.Field.{paperField, fieldReading}
-use Rattle.uslp_field.specs.declared.DataFieldHeaderAnswer.{DataFieldHeaderAnswer}
+use Rattle.uslp_primary_header.specs.Header.{lenHeader}
+use Rattle.uslp_primary_header.proofs.RoundTrip.{read-long}
+use Rattle.uslp_data_field_header.specs.Field.{paperField, fieldReading}
+use Rattle.uslp_data_field_header.specs.declared.DataFieldHeaderAnswer.{DataFieldHeaderAnswer}
 use Rattle.uslp_reader.proofs.Parts.{rest-part}
 use Rattle.uslp_reader.proofs.Paths.{reading-short, reading-field}
 use borrow.Author.Needs.{needs}

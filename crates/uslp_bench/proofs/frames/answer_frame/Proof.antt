@@ -6,7 +6,7 @@ use mathlib.Core.Bool.{Bool, true, false}
 use mathlib.Core.List.{List}
 use native.Mathlib.Omega.{arith}
 use lib.ListN.{length, take}
-use Rattle.uslp_frame.specs.Frame.{frameWriting}
+use Rattle.uslp_writer.specs.Frame.{frameWriting}
 use Rattle.uslp_bench_frames.specs.Commands.{buffer, withOctets}
 use Rattle.uslp_bench.specs.Commands.{maybeOctets, frameWritten}
 use Rattle.uslp_bench.proofs.Laws.{asked, room-within, data-within, frame-made, wrote-trouble, wrote-fit, unused}

@@ -4,7 +4,7 @@ use mathlib.Core.Path.{_≡_, refl}
 use Prim.Native.Nat.{ℕ, _-_}
 use native.Mathlib.Omega.{arith}
 use lib.ListN.{length}
-use Rattle.uslp_header.specs.declared.PrimaryHeader.{PrimaryHeader}
+use Rattle.uslp_primary_header.specs.declared.PrimaryHeader.{PrimaryHeader}
 use Rattle.uslp_arguments.specs.Headers.{headerOf}
 use Rattle.uslp_arguments.specs.declared.Trouble.the-variants.{BufLen}
 use Rattle.uslp_arguments.proofs.Laws.{number-le}

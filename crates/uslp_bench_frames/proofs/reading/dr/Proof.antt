@@ -1,7 +1,7 @@
 -- `uslp_bench_frames::reading::dr` meets its contract: the data field header that was read, or the refusal.
 -- Assumes nothing.
 use mathlib.Core.Path.{ap}
-use Rattle.uslp_field.specs.Field.{paperField}
+use Rattle.uslp_data_field_header.specs.Field.{paperField}
 use Rattle.uslp_text.proofs.Telling.{told-more}
 use Rattle.uslp_answers.specs.Texts.{fieldHeaderText}
 use Rattle.uslp_bench_frames.proofs.Laws.{told-promised}

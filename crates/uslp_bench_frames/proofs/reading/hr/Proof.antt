@@ -1,7 +1,7 @@
 -- `uslp_bench_frames::reading::hr` meets its contract: the header that was read, or the refusal.
 -- Assumes nothing.
 use mathlib.Core.Path.{ap}
-use Rattle.uslp_header.specs.Header.{paperHeader}
+use Rattle.uslp_primary_header.specs.Header.{paperHeader}
 use Rattle.uslp_text.proofs.Telling.{told-more}
 use Rattle.uslp_answers.specs.Texts.{headerText}
 use Rattle.uslp_bench_frames.proofs.Laws.{told-promised}

@@ -1,7 +1,7 @@
 -- `uslp_bench_frames::writing::fw` meets its contract: the frame over the filled buffer is told, and stands.
 -- Assumes nothing.
 use denote.Ref.{now}
-use Rattle.uslp_frame.specs.Frame.{frameWriting}
+use Rattle.uslp_writer.specs.Frame.{frameWriting}
 use Rattle.uslp_bench_frames.proofs.Laws.{told-written}
 use borrow.Author.Needs.{needs}
 use Rattle.uslp_bench_frames.proofs.writing.fw.Statement.{statement}

@@ -2,7 +2,7 @@
 -- Assumes nothing.
 use denote.Ref.{now}
 use Rattle.uslp_kinds.specs.Answers.{paperLength}
-use Rattle.uslp_frame.specs.Frame.{frameWriting}
+use Rattle.uslp_writer.specs.Frame.{frameWriting}
 use Rattle.uslp_bench_frames.proofs.Laws.{told-answer}
 use borrow.Author.Needs.{needs}
 use Rattle.uslp_bench_frames.proofs.writing.rw.Statement.{statement}

@@ -4,8 +4,8 @@ use mathlib.Core.Path.{ap, _∙_}
 use Prim.Native.Nat.{ℕ}
 use mathlib.Core.List.{List}
 use Rattle.uslp_kinds.specs.Outcome.{Outcome, Written, andThen}
-use Rattle.uslp_header.specs.Header.{paperHeader, lengthSetting}
-use Rattle.uslp_header.specs.declared.PrimaryHeader.{PrimaryHeader}
+use Rattle.uslp_primary_header.specs.Header.{paperHeader, lengthSetting}
+use Rattle.uslp_primary_header.specs.declared.PrimaryHeader.{PrimaryHeader}
 use Rattle.uslp_bench_frames.proofs.Laws.{as-promised, headerOver}
 use borrow.Author.Needs.{needs}
 use Rattle.uslp_bench_frames.proofs.writing.write_header.Statement.{statement}

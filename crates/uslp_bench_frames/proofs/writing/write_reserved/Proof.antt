@@ -2,7 +2,7 @@
 -- Assumes nothing.
 use mathlib.Core.Path.{ap}
 use native.Mathlib.Omega.{arith}
-use Rattle.uslp_frame.specs.Reserved.{paperReserved}
+use Rattle.uslp_writer.specs.Reserved.{paperReserved}
 use Rattle.uslp_bench_frames.proofs.Laws.{reserved-refused, reserved-done}
 use borrow.Author.Needs.{needs}
 use Rattle.uslp_bench_frames.proofs.writing.write_reserved.Statement.{statement}

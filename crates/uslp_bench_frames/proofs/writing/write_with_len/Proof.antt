@@ -1,7 +1,7 @@
 -- `uslp_bench_frames::writing::write_with_len` meets its contract: the header with its length is written, or a refusal leaves the buffer.
 -- Assumes nothing.
 use mathlib.Core.Path.{ap, _∙_}
-use Rattle.uslp_header.specs.Header.{paperHeader}
+use Rattle.uslp_primary_header.specs.Header.{paperHeader}
 use Rattle.uslp_bench_frames.proofs.Laws.{as-promised, headerOver}
 use borrow.Author.Needs.{needs}
 use Rattle.uslp_bench_frames.proofs.writing.write_with_len.Statement.{statement}

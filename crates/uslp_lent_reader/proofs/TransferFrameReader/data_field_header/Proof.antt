@@ -1,5 +1,5 @@
 -- `TransferFrameReader::data_field_header` meets its contract, by the walk of `uslp_walks`.
-use Rattle.uslp_field.specs.Field.{paperField}
+use Rattle.uslp_data_field_header.specs.Field.{paperField}
 use Rattle.uslp_walks.proofs.Held.{by-parts}
 use Rattle.uslp_lent_reader.proofs.Reader.{reader, field-answer, Shows}
 use Rattle.uslp_lent_reader.proofs.parts.data_field_header.Symbol as callee

@@ -1,6 +1,6 @@
 -- `TransferFrameReader::len_frame` meets its contract, by the walk of `uslp_walks`.
 use Rattle.uslp_kinds.specs.Answers.{paperLength}
-use Rattle.uslp_header.specs.Header.{lenFrame}
+use Rattle.uslp_primary_header.specs.Header.{lenFrame}
 use Rattle.uslp_walks.proofs.Held.{by-parts}
 use Rattle.uslp_lent_reader.proofs.Reader.{reader, length-answer, Shows}
 use Rattle.uslp_lent_reader.proofs.parts.len_frame.Symbol as callee

@@ -1,5 +1,5 @@
 -- `TransferFrameReader::primary_header` meets its contract, by the walk of `uslp_walks`.
-use Rattle.uslp_header.specs.Header.{paperHeader}
+use Rattle.uslp_primary_header.specs.Header.{paperHeader}
 use Rattle.uslp_walks.proofs.Held.{by-parts}
 use Rattle.uslp_lent_reader.proofs.Reader.{reader, header-answer, Shows}
 use Rattle.uslp_lent_reader.proofs.parts.primary_header.Symbol as callee

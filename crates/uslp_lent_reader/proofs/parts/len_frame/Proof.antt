@@ -1,7 +1,7 @@
 -- `parts::len_frame` meets its contract: each arm is one case of `ofFrame`.
 use Rattle.uslp_lent_reader.proofs.Arms.{done-arm, refused-arm}
 use Rattle.uslp_reader.specs.declared.TransferFrame.{TransferFrame}
-use Rattle.uslp_header.specs.Header.{lenFrame}
+use Rattle.uslp_primary_header.specs.Header.{lenFrame}
 use borrow.Author.Needs.{needs}
 use Rattle.uslp_lent_reader.proofs.parts.len_frame.Statement.{statement}
 use Rattle.uslp_lent_reader.proofs.parts.len_frame.Tie as tie

@@ -1,7 +1,7 @@
 -- `TransferFrame::from_bytes` meets its contract: what the header's reading says decides.
 -- Assumes nothing.
 use mathlib.Core.Path.{ap, sym, _∙_}
-use Rattle.uslp_header.specs.Header.{paperHeader}
+use Rattle.uslp_primary_header.specs.Header.{paperHeader}
 use Rattle.uslp_reader.proofs.Paths.{reading-header}
 use borrow.Author.Needs.{needs}
 use Rattle.uslp_reader.proofs.TransferFrame.from_bytes.Statement.{statement}

@@ -1,0 +1,55 @@
+-- What reading a header says, path by path.
+-- Assumes nothing.
+use mathlib.Core.Path.{_≡_, ap}
+use mathlib.Core.Bool.{true, false}
+use mathlib.Core.List.{List, [], _∷_}
+use Prim.Native.Nat.{ℕ, _/_, _%_, _<_, _≤_}
+use native.Mathlib.Omega.{arith}
+use borrow.Author.Tests.{lt-ltb, le-ltb}
+use lib.ListN.{length, getD}
+use Rattle.uslp_octets.specs.Octets.{word, bitsOf}
+use Rattle.uslp_kinds.specs.Outcome.{done, refused}
+use Rattle.uslp_kinds.specs.Kinds.{rules, ruleOf, fixedLength, protocolOf}
+use Rattle.uslp_kinds.specs.declared.ConstructionRule.{ConstructionRule}
+use Rattle.uslp_kinds.specs.declared.ConstructionRule.the-variants.{NoSegmentation}
+use Rattle.uslp_kinds.specs.declared.UslpProtocolId.{UslpProtocolId}
+use Rattle.uslp_kinds.specs.declared.FhpOrLvo.{FhpOrLvo}
+use Rattle.uslp_kinds.specs.declared.FhpOrLvo.the-variants.{Absent, Present}
+use Rattle.uslp_data_field_header.specs.Field.{ruleIn, withProtocol, fieldReading}
+
+-- the first octet's high three bits and low five
+pub rule-at : (s : List ℕ) → ruleIn s ≡ ruleOf (getD s 0 0 / 32)
+rule-at s =
+    let e : bitsOf 1 0 3 s % 8 ≡ getD s 0 0 / 32 % 8 = omega arith in
+    ap (λ (n : ℕ). getD rules n NoSegmentation) e
+
+pub number-at : (s : List ℕ) → bitsOf 1 3 5 s ≡ getD s 0 0 % 32
+number-at s = omega arith
+
+pub reading-none : (s : List ℕ) → length s < 1 → fieldReading s ≡ refused 1 (length s ∷ 1 ∷ [])
+unfolding fieldReading
+reading-none s h = rw (lt-ltb _ _ h)
+
+-- with one octet, by its rule and the number of its protocol id
+module _ (s : List ℕ) (one : 1 ≤ length s) (rule : ConstructionRule) (n : ℕ) (has : ruleIn s ≡ rule) (low : bitsOf 1 3 5 s ≡ n) where
+  module _ (fixed : fixedLength rule ≡ true) where
+    pub reading-short : length s < 3 → fieldReading s ≡ refused 1 (length s ∷ 3 ∷ [])
+    unfolding fieldReading
+    reading-short h = rw (le-ltb _ _ one, has, fixed, lt-ltb _ _ h)
+
+    pub reading-pointer : (p : ℕ) → word 1 2 s ≡ p → 3 ≤ length s → fieldReading s ≡ withProtocol rule n (Present p)
+    unfolding fieldReading
+    reading-pointer p e h = rw (le-ltb _ _ one, has, low, e, fixed, le-ltb _ _ h)
+
+  pub reading-other : fixedLength rule ≡ false → fieldReading s ≡ withProtocol rule n Absent
+  unfolding fieldReading
+  reading-other other = rw (le-ltb _ _ one, has, low, other)
+
+-- the protocol id of a known number, and the refusal of one that is not known
+module _ (rule : ConstructionRule) (n : ℕ) (pointer : FhpOrLvo) where
+  pub with-known : {id : UslpProtocolId} → protocolOf n ≡ done id
+      → withProtocol rule n pointer ≡ done (record { «construction_rule» = rule; «uslp_protocol_id» = id; «fhp_or_lvo» = pointer })
+  with-known e = rw e
+
+  pub with-unknown : {k : ℕ} {vs : List ℕ} → protocolOf n ≡ refused k vs → withProtocol rule n pointer ≡ refused k vs
+  with-unknown e = rw e

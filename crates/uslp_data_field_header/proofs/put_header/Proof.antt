@@ -1,0 +1,112 @@
+-- `uslp_data_field_header::put_header` meets its contract: the octets that its stores leave are those of the table.
+-- Assumes nothing.
+use mathlib.Core.Path.{_∙_, ap₂, sym}
+use Prim.Native.Nat.{ℕ, _+_, _*_}
+use native.Mathlib.Omega.{arith}
+use lib.ListN.{length-set}
+use Rattle.uslp_kinds.proofs.Cases.{rule-lt, protocol-lt}
+use Rattle.uslp_data_field_header.proofs.Checks.{pointer-len}
+use Rattle.uslp_data_field_header.proofs.Writing.{writing-short, writing-none, writing-pointer, one-at-least}
+use borrow.Author.Needs.{needs}
+use Rattle.uslp_data_field_header.proofs.put_header.Statement.{statement}
+use Rattle.uslp_data_field_header.proofs.put_header.Tie as tie
+
+len-header-requires : tie.Need-len-header-requires
+len-header-requires c κs = search needs
+
+returns : tie.Need-returns
+returns c =
+    let a = c .before .before .before in
+    sym (writing-short (a .args .header) (a .args .buf .now) (a .pre) _ (c .before .len-header .ensures) (c .if1 .taken))
+
+number-requires : tie.Need-number-requires
+number-requires c κs = search needs
+
+mul-buf : tie.Need-mul-buf
+mul-buf c = omega (arith, c .number .ensures, rule-lt (c .before .before .before .before .args .header .«construction_rule»))
+
+number-requires-2 : tie.Need-number-requires-2
+number-requires-2 c κs = search needs
+
+add-buf : tie.Need-add-buf
+add-buf c =
+    let h = c .before .before .before .before .before .args .header in
+    omega (arith, c .number2 .ensures, c .before .number .ensures, rule-lt (h .«construction_rule»), protocol-lt (h .«uslp_protocol_id»))
+
+slice-write-buf : tie.Need-slice-write-buf
+slice-write-buf c =
+    let l = c .before .before .before in
+    omega (arith, l .len-header .ensures, c .before .before .if1 .left, one-at-least (l .before .before .args .header))
+
+enum-known-pointer : tie.Need-enum-known-pointer
+enum-known-pointer c = search needs
+
+cast-put-number : tie.Need-cast-put-number
+cast-put-number c = search needs
+
+sub-put-number : tie.Need-sub-put-number
+sub-put-number c = search needs
+
+part-put-number-start : tie.Need-part-put-number-start
+part-put-number-start c = search needs
+
+part-put-number-end : tie.Need-part-put-number-end
+part-put-number-end c =
+    let l = c .before .before .before .before .before .before in
+    let a = l .before .before in
+    let three = pointer-len (a .args .header) (a .pre) _ (c .before .pointer .given .1) in
+    simp length-set (omega (arith, three, l .len-header .ensures, c .before .before .before .before .before .if1 .left))
+
+put-number-requires : tie.Need-put-number-requires
+put-number-requires c κs = search needs
+
+enum-told : tie.Need-enum-told
+enum-told c = search needs
+
+same-length : tie.Need-same-length
+same-length c = c .before .buf .given .1 ∙ simp length-set
+
+returns-2 : tie.Need-returns-2
+returns-2 c =
+    let k = c .before .before .before .before in
+    let m = k .before .before .before in
+    let l = m .before .before .before in
+    let a = l .before .before in
+    writing-pointer (a .args .header) (a .args .buf .now) (a .pre) _ (l .len-header .ensures) (m .before .before .if1 .left) _
+    (ap₂ (λ (r i : ℕ). r * 32 + i) (m .before .number .ensures) (m .number2 .ensures))
+    _ _ (k .before .pointer .given .1) (omega (arith, k .known-told .given)) (c .before .before .put-number .ensures)
+
+same-length-2 : tie.Need-same-length-2
+same-length-2 c = search needs
+
+returns-3 : tie.Need-returns-3
+returns-3 c =
+    let m = c .before .before in
+    let l = m .before .before .before in
+    let a = l .before .before in
+    writing-none (a .args .header) (a .args .buf .now) (a .pre) _ (l .len-header .ensures) (m .before .before .if1 .left) _
+    (ap₂ (λ (r i : ℕ). r * 32 + i) (m .before .number .ensures) (m .number2 .ensures))
+    (c .enum-told .given .1)
+
+pub put-header-spec : {M : Type 1} → statement M
+put-header-spec =
+    tie.close
+    (tie.spec
+    len-header-requires
+    returns
+    number-requires
+    mul-buf
+    number-requires-2
+    add-buf
+    slice-write-buf
+    enum-known-pointer
+    cast-put-number
+    sub-put-number
+    part-put-number-start
+    part-put-number-end
+    put-number-requires
+    enum-told
+    same-length
+    returns-2
+    same-length-2
+    returns-3)

@@ -1,0 +1,175 @@
+-- Reading a layout gives its header, reading and then writing gives the octets, writing and then reading gives the header.
+-- And when two headers are the same but for the count's width, and that an answer on paper loses nothing.
+-- Assumes nothing.
+use mathlib.Core.Path.{_≡_, refl, ap, ap₂, sym, _∙_, subst}
+use Prim.Native.Nat.{ℕ, _+_, _/_, _%_, _<_, _≤_}
+use mathlib.Core.List.{List, [], _∷_, _++_}
+use mathlib.Core.Bool.{Bool, true, false, not, _&&_}
+use mathlib.Core.Logic.{_↔_}
+use native.Mathlib.Omega.{arith}
+use native.Mathlib.Decide.{decLt}
+use borrow.Author.Tests.{ltb-false, eqb-true, eqb-false, eq-eqb, not-false}
+use lib.ListN.{length, take, drop, getD, length-append}
+use lib.Seq.{take-add}
+use lib.Dec.{lit<, ltb, eqb}
+use Rattle.uslp_octets.specs.Octets.{AreOctets, bitsIn, octets, pack, bitsOf}
+use Rattle.uslp_octets.proofs.Laws.{length-octets, octets-word, word-lt}
+use Rattle.uslp_kinds.specs.Outcome.{Outcome, done, refused, leaving}
+use Rattle.uslp_kinds.specs.Kinds.{sourceOrDestNumber, sourceOrDestOf, bypassNumber, bypassOf, commandNumber, commandOf}
+use Rattle.uslp_kinds.proofs.Cases.{source-back, bypass-back, command-back}
+use Rattle.uslp_kinds.proofs.Back.{back, refusal-back, one-to-one, leaving-one}
+use Rattle.uslp_primary_header.specs.Header.{paperHeader, flag, field, table, lenHeader, withCount, sameButWidth, headerIn, headerChecking, headerReading, headerWriting}
+use Rattle.uslp_primary_header.specs.declared.PrimaryHeader.{PrimaryHeader}
+use Rattle.uslp_primary_header.specs.declared.HeaderAnswer.{HeaderAnswer}
+use Rattle.uslp_primary_header.specs.declared.HeaderAnswer.the-variants as header-answer
+use Rattle.uslp_kinds.proofs.Outcomes.{not-done}
+use Rattle.uslp_kinds.proofs.Firsts.{Check, Passing, first-done}
+use Rattle.uslp_primary_header.proofs.Checks.{width-in, checks-done, checks-same}
+use Rattle.uslp_primary_header.proofs.Fields.{header-eq, headerAt, front, header-at, truncated-at, version-at, spare-at}
+use Rattle.uslp_primary_header.specs.Header.{Fitting}
+use Rattle.uslp_primary_header.proofs.ReadPaths.{reading-done}
+use Rattle.uslp_primary_header.proofs.Seven.{seven-front, seven-header, seven-back}
+use Rattle.uslp_primary_header.proofs.Table.{flag-back, seven, table-octets}
+use Rattle.uslp_primary_header.proofs.WritePaths.{writing-refused, writing-short, writing-done}
+
+pub length-table : (spare : ℕ) (h : PrimaryHeader) → length (pack (table spare h)) ≡ lenHeader h
+length-table spare h =
+    let e : bitsIn (table spare h) / 8 ≡ lenHeader h = omega arith in
+    length-octets _ _ ∙ e
+
+-- any value of the spare bits, and any octets behind the header
+pub layout-read : (spare : ℕ) (h : PrimaryHeader) (t : List ℕ) → spare < 4 → Fitting h → headerReading (pack (table spare h) ++ t) ≡ done h
+layout-read spare h t small f =
+    let w : ℕ = h .«vc_frame_count_len» in
+    let rest : List ℕ = octets (h .«vc_frame_count_len») (h .«vc_frame_count») ++ t in
+    let o = seven-front spare h rest small f in
+    let fits = width-in h (f .checks-pass) in
+    rw (table-octets spare h small f)
+    (reading-done (seven spare h ++ rest) o (omega arith) (λ e. omega arith) (omega arith) (omega (arith, f .spacecraft-fits))
+    (omega (arith, length-append (octets w (h .«vc_frame_count»)) t, length-octets w (h .«vc_frame_count»)))
+    ∙ ap done (header-at (seven spare h ++ rest) o ∙ seven-header spare h t small f))
+
+-- the checks of reading, as tests
+abbrev tests : List ℕ → List Check
+tests s =
+    (ltb (length s) 4, 1, length s ∷ 4 ∷ [])
+    ∷ (eqb (bitsOf 4 31 1 s) 1, 3, [])
+    ∷ (ltb (length s) 7, 1, length s ∷ 7 ∷ [])
+    ∷ (not (eqb (field 0 4 s) 12), 4, field 0 4 s ∷ [])
+    ∷ (ltb (length s) (7 + field 53 3 s), 1, length s ∷ (7 + field 53 3 s) ∷ [])
+    ∷ []
+
+-- what was read: no test held, and the header is the one that stands in the octets
+module _ (s : List ℕ) (h : PrimaryHeader) (e : headerReading s ≡ done h) where
+  read-passed : Passing (tests s) × (headerIn s ≡ h)
+  unfolding headerReading
+  read-passed = first-done (tests s) e
+
+  pub read-long : lenHeader h ≤ length s
+  read-long = omega (arith, ltb-false (length s) (7 + field 53 3 s) (read-passed .0 4), ap (λ (k : PrimaryHeader). k .«vc_frame_count_len») (read-passed .1))
+
+-- the header that stands in octets fits, and is laid out as they are
+module _ (s : List ℕ) (oct : AreOctets s) where
+  fitting-at : Fitting (headerAt s)
+  fitting-at =
+      record {
+        spacecraft-fits = omega (arith, oct 0, oct 1, oct 2);
+        length-fits = omega (arith, oct 4, oct 5);
+        checks-pass = checks-done (headerAt s) (omega (arith, oct 2, oct 3)) (omega arith) (omega arith) (word-lt s 7 oct (getD s 6 0 % 8));
+      }
+
+  layout-at : 7 + getD s 6 0 % 8 ≤ length s → getD s 0 0 / 16 ≡ 12 → getD s 3 0 % 2 ≡ 0
+      → take (7 + getD s 6 0 % 8) s ≡ pack (table (field 50 2 s) (headerAt s))
+  layout-at long version even =
+      let f = front s oct in
+      take-add 7 (getD s 6 0 % 8) s
+      ∙ sym
+      (ap (λ (z : ℕ). pack (table z (headerAt s))) (spare-at s f)
+      ∙ table-octets (getD s 6 0 / 16 % 4) (headerAt s) (omega arith) fitting-at
+      ∙ ap₂ (λ (a b : List ℕ). a ++ b) (seven-back s f (omega arith) version even) (octets-word s 7 oct (getD s 6 0 % 8) long))
+
+module _ (s : List ℕ) (h : PrimaryHeader) (oct : AreOctets s) (e : headerReading s ≡ done h) where
+  same-at : headerAt s ≡ h
+  same-at = sym (header-at s (front s oct)) ∙ read-passed s h e .1
+
+  pub read-fitting : Fitting h
+  read-fitting = subst Fitting same-at (fitting-at s oct)
+
+  pub read-layout : take (lenHeader h) s ≡ pack (table (field 50 2 s) h)
+  read-layout =
+      let p = read-passed s h e .0 in
+      let version : field 0 4 s ≡ 12 = eqb-true _ _ (not-false _ (p 3)) in
+      let whole = eqb-false (bitsOf 4 31 1 s) 1 (p 1) in
+      let at : bitsOf 4 31 1 s ≡ getD s 3 0 % 2 = truncated-at s (front s oct) in
+      let long : lenHeader (headerAt s) ≤ length s = subst (λ (k : PrimaryHeader). lenHeader k ≤ length s) (sym same-at) (read-long s h e) in
+      subst (λ (k : PrimaryHeader). take (lenHeader k) s ≡ pack (table (field 50 2 s) k)) same-at
+      (layout-at s oct long (sym (version-at s (front s oct)) ∙ version) (omega (arith, whole)))
+
+-- what was read with the spare bits 0, and then written, comes back
+pub read-written : (s t : List ℕ) (h : PrimaryHeader) → AreOctets s → headerReading s ≡ done h → field 50 2 s ≡ 0 → lenHeader h ≤ length t
+    → headerWriting h t ≡ leaving (done (lenHeader h)) (take (lenHeader h) s ++ drop (lenHeader h) t)
+read-written s t h oct e spare room =
+    writing-done h t (read-fitting s h oct e .checks-pass) room
+    ∙ ap (λ (l : List ℕ). leaving (done (lenHeader h)) (l ++ drop (lenHeader h) t))
+    (sym (read-layout s h oct e ∙ ap (λ (z : ℕ). pack (table z h)) spare))
+
+-- what was written: the checks passed, and there was room
+not-left : {k n : ℕ} {vs s t : List ℕ} → leaving (refused k vs) s ≡ leaving (done n) t → ⊥
+not-left e = not-done (leaving-one e .0)
+
+module _ (h : PrimaryHeader) (s s′ : List ℕ) (n : ℕ) (e : headerWriting h s ≡ leaving (done n) s′) where
+  passed-by : (o : Outcome PrimaryHeader) → headerChecking h ≡ o → headerChecking h ≡ done h
+  passed-by (done g) q = q ∙ ap done (sym (checks-same h g q))
+  passed-by (refused k vs) q = absurd (not-left (sym (writing-refused h s q) ∙ e))
+
+  pub written-passed : headerChecking h ≡ done h
+  written-passed = passed-by (headerChecking h) refl
+
+  pub written-room : lenHeader h ≤ length s
+  written-room = elim (decLt (length s) (lenHeader h)) [ yes a ↦ absurd (not-left (sym (writing-short h s written-passed a) ∙ e)) | no a ↦ omega arith ]
+
+pub written-read : (h : PrimaryHeader) (s s′ : List ℕ) (n : ℕ) → h .«spacecraft_id» < 65536 → h .«frame_len_field» < 65536
+    → headerWriting h s ≡ leaving (done n) s′ → headerReading s′ ≡ done h
+written-read h s s′ n x l e =
+    let p = written-passed h s s′ n e in
+    ap headerReading (sym (leaving-one (sym (writing-done h s p (written-room h s s′ n e)) ∙ e) .1))
+    ∙ layout-read 0 h (drop (lenHeader h) s) (lit< tt) (record { spacecraft-fits = x; length-fits = l; checks-pass = p })
+
+-- a conjunction that holds: both parts hold
+both : (p q : Bool) → p && q ≡ true → (p ≡ true) × (q ≡ true)
+both true q e = (refl, e)
+both false q e = (e, absurd (let z : _≡_ {A = ℕ} 0 1 = cc in omega arith))
+
+same : (n : ℕ) → eqb n n ≡ true
+same n = eq-eqb n n refl
+
+module _ (a b : PrimaryHeader) where
+  all-same : sameButWidth a b ≡ true → withCount (b .«vc_frame_count_len») (a .«vc_frame_count») a ≡ b
+  all-same e =
+      let h = both _ _ e in
+      let g = both _ _ (h .0) in
+      let f = both _ _ (g .0) in
+      let k = both _ _ (f .0) in
+      let l = both _ _ (k .0) in
+      let m = both _ _ (l .0) in
+      let v = both _ _ (m .0) in
+      let x = both _ _ (v .0) in
+      header-eq
+      (eqb-true _ _ (x .0))
+      (one-to-one sourceOrDestNumber sourceOrDestOf source-back (eqb-true _ _ (x .1)))
+      (eqb-true _ _ (v .1))
+      (eqb-true _ _ (m .1))
+      (eqb-true _ _ (l .1))
+      (one-to-one bypassNumber bypassOf bypass-back (eqb-true _ _ (k .1)))
+      (one-to-one commandNumber commandOf command-back (eqb-true _ _ (f .1)))
+      (one-to-one flag (λ (n : ℕ). eqb n 1) flag-back (eqb-true _ _ (g .1)))
+      refl
+      (eqb-true _ _ (h .1))
+
+  pub same-exactly : (sameButWidth a b ≡ true) ↔ (withCount (b .«vc_frame_count_len») (a .«vc_frame_count») a ≡ b)
+  same-exactly = (all-same, λ e. ap (sameButWidth a) (sym e) ∙ simp same)
+
+-- an answer on paper has a way back
+pub header-one : (r : HeaderAnswer) → back header-answer.Done header-answer.Refused (paperHeader r) ≡ r
+header-one (header-answer.Done h) = refl
+header-one (header-answer.Refused r) = ap header-answer.Refused (refusal-back r)

@@ -1,0 +1,57 @@
+-- `put_header` meets its contract: seven octets, and then the count's over those that follow.
+-- Assumes nothing.
+use mathlib.Core.Path.{sym}
+use native.Mathlib.Omega.{arith}
+use Rattle.uslp_primary_header.proofs.WritePaths.{writing-short, writing-put}
+use borrow.Author.Needs.{needs}
+use Rattle.uslp_primary_header.proofs.writing.put_header.Statement.{statement}
+use Rattle.uslp_primary_header.proofs.writing.put_header.Tie as tie
+
+len-header-requires : tie.Need-len-header-requires
+len-header-requires c κs = search needs
+
+returns : tie.Need-returns
+returns c =
+    let start = c .before .before .before in
+    rw (c .before .len-header .ensures)
+    (sym (writing-short (start .args .header) (start .args .buf .now) (start .pre) (omega (arith, c .if1 .taken, c .before .len-header .ensures))))
+
+put-fixed-requires : tie.Need-put-fixed-requires
+put-fixed-requires c κs = search needs
+
+sub-put-number : tie.Need-sub-put-number
+sub-put-number c = search needs
+
+part-put-number-start : tie.Need-part-put-number-start
+part-put-number-start c = search needs
+
+part-put-number-end : tie.Need-part-put-number-end
+part-put-number-end c = search needs
+
+put-number-requires : tie.Need-put-number-requires
+put-number-requires c κs = search needs
+
+same-length : tie.Need-same-length
+same-length c = search needs
+
+returns-2 : tie.Need-returns-2
+returns-2 c =
+    let p = c .before .before in
+    let q = p .before .before .before .before in
+    let d = q .before .before .before in
+    let start = d .before .before in
+    writing-put (start .args .header) (start .args .buf .now) (start .pre) _ _ _ (d .len-header .ensures) (omega arith) (q .put-fixed .ensures) (p .put-number .ensures)
+
+pub put-header-spec : {M : Type 1} → statement M
+put-header-spec =
+    tie.close
+    (tie.spec
+    len-header-requires
+    returns
+    put-fixed-requires
+    sub-put-number
+    part-put-number-start
+    part-put-number-end
+    put-number-requires
+    same-length
+    returns-2)

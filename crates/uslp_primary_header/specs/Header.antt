@@ -1,0 +1,187 @@
+-- The primary header: CCSDS 732.1-B's table of bit fields, and what each call answers, in the order of document 01.
+use mathlib.Core.Path.{_≡_}
+use Prim.Native.Nat.{ℕ, _+_, _*_, _^_, _-_, _<_}
+use mathlib.Core.Bool.{Bool, true, false, not, _&&_, _||_}
+use mathlib.Core.List.{List, [], _∷_, _++_}
+use lib.ListN.{length, drop}
+use lib.Dec.{ltb, leb, eqb}
+use Rattle.uslp_octets.specs.Octets.{Field, pack, word, bitsOf}
+use Rattle.uslp_kinds.specs.Outcome.{Outcome, done, refused, Written, written, firstOf}
+use Rattle.uslp_kinds.specs.Kinds.{sourceOrDestNumber, sourceOrDestOf, bypassNumber, bypassOf, commandNumber, commandOf}
+use Rattle.uslp_kinds.specs.Answers.{refusal}
+use Rattle.uslp_kinds.specs.declared.SourceOrDestField.{SourceOrDestField}
+use Rattle.uslp_kinds.specs.declared.BypassSequenceControlFlag.the-variants.{SequenceControlledQoS}
+use Rattle.uslp_kinds.specs.declared.ProtocolControlCommandFlag.the-variants.{TfdfContainsUserData}
+use Rattle.uslp_primary_header.specs.declared.PrimaryHeader.{PrimaryHeader}
+use Rattle.uslp_primary_header.specs.declared.HeaderAnswer.{HeaderAnswer}
+use Rattle.uslp_primary_header.specs.declared.HeaderAnswer.the-variants as header-answer
+
+abbrev pub paperHeader : HeaderAnswer → Outcome PrimaryHeader
+paperHeader (header-answer.Done h) = done h
+paperHeader (header-answer.Refused r) = refusal r
+
+abbrev pub flag : Bool → ℕ
+flag true = 1
+flag false = 0
+
+-- the fields of the first seven octets, from the first bit on, each with its width; the two spare bits are a parameter
+abbrev pub fixedTable : ℕ → PrimaryHeader → List Field
+fixedTable spare h =
+    (4, 12)
+    ∷ (16, h .«spacecraft_id»)
+    ∷ (1, sourceOrDestNumber (h .«source_or_dest_field»))
+    ∷ (6, h .«vc_id»)
+    ∷ (4, h .«map_id»)
+    ∷ (1, 0)
+    ∷ (16, h .«frame_len_field»)
+    ∷ (1, bypassNumber (h .«sequence_control_flag»))
+    ∷ (1, commandNumber (h .«protocol_control_command_flag»))
+    ∷ (2, spare)
+    ∷ (1, flag (h .«ocf_flag»))
+    ∷ (3, h .«vc_frame_count_len»)
+    ∷ []
+
+-- and then the count, in as many octets as the field before it says
+abbrev pub table : ℕ → PrimaryHeader → List Field
+table spare h = fixedTable spare h ++ (8 * h .«vc_frame_count_len», h .«vc_frame_count») ∷ []
+
+abbrev pub lenHeader : PrimaryHeader → ℕ
+lenHeader h = 7 + h .«vc_frame_count_len»
+
+-- the frame's total octets: the header holds them less one
+abbrev pub lenFrame : PrimaryHeader → ℕ
+lenFrame h = h .«frame_len_field» + 1
+
+-- a count must be below 256 to the power of its width
+abbrev pub countBad : ℕ → ℕ → Bool
+countBad width count = leb (256 ^ width) count
+
+-- the checks of a header that is written: 10, 8
+abbrev pub headerChecks : {A : Type 0} → PrimaryHeader → List (Bool × Outcome A)
+headerChecks h =
+    (ltb 63 (h .«vc_id») || ltb 15 (h .«map_id») || ltb 7 (h .«vc_frame_count_len»), refused 10 [])
+    ∷ (countBad (h .«vc_frame_count_len») (h .«vc_frame_count»), refused 8 (h .«vc_frame_count» ∷ h .«vc_frame_count_len» ∷ []))
+    ∷ []
+
+unfoldable pub headerChecking : PrimaryHeader → Outcome PrimaryHeader
+headerChecking h = firstOf (headerChecks h) (done h)
+
+-- making a header refuses 10; a length of 0 is kept as 1
+unfoldable pub headerMaking : ℕ → SourceOrDestField → ℕ → ℕ → ℕ → Outcome PrimaryHeader
+headerMaking spacecraft role channel map length =
+    firstOf
+    ((ltb 63 channel || ltb 15 map, refused 10 []) ∷ [])
+    (done
+    (record {
+      «spacecraft_id» = spacecraft;
+      «source_or_dest_field» = role;
+      «vc_id» = channel;
+      «map_id» = map;
+      «frame_len_field» = length - 1;
+      «sequence_control_flag» = SequenceControlledQoS;
+      «protocol_control_command_flag» = TfdfContainsUserData;
+      «ocf_flag» = false;
+      «vc_frame_count_len» = 0;
+      «vc_frame_count» = 0;
+    }))
+
+-- the header with another count, or another length
+abbrev pub withCount : ℕ → ℕ → PrimaryHeader → PrimaryHeader
+withCount width count h =
+    record {
+      «spacecraft_id» = h .«spacecraft_id»;
+      «source_or_dest_field» = h .«source_or_dest_field»;
+      «vc_id» = h .«vc_id»;
+      «map_id» = h .«map_id»;
+      «frame_len_field» = h .«frame_len_field»;
+      «sequence_control_flag» = h .«sequence_control_flag»;
+      «protocol_control_command_flag» = h .«protocol_control_command_flag»;
+      «ocf_flag» = h .«ocf_flag»;
+      «vc_frame_count_len» = width;
+      «vc_frame_count» = count;
+    }
+
+abbrev pub withLength : ℕ → PrimaryHeader → PrimaryHeader
+withLength total h =
+    record {
+      «spacecraft_id» = h .«spacecraft_id»;
+      «source_or_dest_field» = h .«source_or_dest_field»;
+      «vc_id» = h .«vc_id»;
+      «map_id» = h .«map_id»;
+      «frame_len_field» = total - 1;
+      «sequence_control_flag» = h .«sequence_control_flag»;
+      «protocol_control_command_flag» = h .«protocol_control_command_flag»;
+      «ocf_flag» = h .«ocf_flag»;
+      «vc_frame_count_len» = h .«vc_frame_count_len»;
+      «vc_frame_count» = h .«vc_frame_count»;
+    }
+
+-- setting the count refuses 10 for the width alone, then 8
+unfoldable pub countSetting : PrimaryHeader → ℕ → ℕ → Outcome PrimaryHeader
+countSetting h width count =
+    firstOf ((ltb 7 width, refused 10 []) ∷ (countBad width count, refused 8 (count ∷ width ∷ [])) ∷ []) (done (withCount width count h))
+
+-- setting the length refuses 12 above 65,536; 0 is kept as 1
+unfoldable pub lengthSetting : PrimaryHeader → ℕ → Outcome PrimaryHeader
+lengthSetting h total = firstOf ((ltb 65536 total, refused 12 []) ∷ []) (done (withLength total h))
+
+-- the equality of the Rust: every field but the count's width
+abbrev pub sameButWidth : PrimaryHeader → PrimaryHeader → Bool
+sameButWidth a b =
+    eqb (a .«spacecraft_id») (b .«spacecraft_id»)
+    && eqb (sourceOrDestNumber (a .«source_or_dest_field»)) (sourceOrDestNumber (b .«source_or_dest_field»))
+    && eqb (a .«vc_id») (b .«vc_id»)
+    && eqb (a .«map_id») (b .«map_id»)
+    && eqb (a .«frame_len_field») (b .«frame_len_field»)
+    && eqb (bypassNumber (a .«sequence_control_flag»)) (bypassNumber (b .«sequence_control_flag»))
+    && eqb (commandNumber (a .«protocol_control_command_flag»)) (commandNumber (b .«protocol_control_command_flag»))
+    && eqb (flag (a .«ocf_flag»)) (flag (b .«ocf_flag»))
+    && eqb (a .«vc_frame_count») (b .«vc_frame_count»)
+
+-- of seven octets, the w bits from bit i on
+abbrev pub field : ℕ → ℕ → List ℕ → ℕ
+field i w s = bitsOf 7 i w s
+
+-- the header that stands in the octets; the spare bits, 50 and 51, are not looked at
+abbrev pub headerIn : List ℕ → PrimaryHeader
+headerIn s =
+    record {
+      «spacecraft_id» = field 4 16 s;
+      «source_or_dest_field» = sourceOrDestOf (field 20 1 s);
+      «vc_id» = field 21 6 s;
+      «map_id» = field 27 4 s;
+      «frame_len_field» = field 32 16 s;
+      «sequence_control_flag» = bypassOf (field 48 1 s);
+      «protocol_control_command_flag» = commandOf (field 49 1 s);
+      «ocf_flag» = eqb (field 52 1 s) 1;
+      «vc_frame_count_len» = field 53 3 s;
+      «vc_frame_count» = word 7 (field 53 3 s) s;
+    }
+
+-- reading a header: 1 (4 octets), 3, 1 (7 octets), 4, 1 (count)
+unfoldable pub headerReading : List ℕ → Outcome PrimaryHeader
+headerReading s =
+    firstOf
+    ((ltb (length s) 4, refused 1 (length s ∷ 4 ∷ []))
+    ∷ (eqb (bitsOf 4 31 1 s) 1, refused 3 [])
+    ∷ (ltb (length s) 7, refused 1 (length s ∷ 7 ∷ []))
+    ∷ (not (eqb (field 0 4 s) 12), refused 4 (field 0 4 s ∷ []))
+    ∷ (ltb (length s) (7 + field 53 3 s), refused 1 (length s ∷ (7 + field 53 3 s) ∷ []))
+    ∷ [])
+    (done (headerIn s))
+
+-- writing a header over octets s: 10, 8, 2; its length and OCF flag as they are, the octets past it stay
+unfoldable pub headerWriting : PrimaryHeader → List ℕ → Written ℕ
+headerWriting h s =
+    written
+    (firstOf
+    (headerChecks h ++ (ltb (length s) (lenHeader h), refused 2 (length s ∷ lenHeader h ∷ [])) ∷ [])
+    (done (lenHeader h)))
+    (pack (table 0 h) ++ drop (lenHeader h) s)
+    s
+
+-- a header that the layout can carry: the machine's own bounds, and the checks of writing pass
+pub record Fitting (h : PrimaryHeader) : Type 0 where
+  pub spacecraft-fits : h .«spacecraft_id» < 65536
+  pub length-fits : h .«frame_len_field» < 65536
+  pub checks-pass : headerChecking h ≡ done h

@@ -1,0 +1,62 @@
+-- `finish` meets its contract: a length that is given has room for the FECF.
+-- Assumes nothing.
+use mathlib.Core.Path.{_≡_, ap, sym, _∙_}
+use lib.ListN.{length}
+use Rattle.uslp_kinds.specs.Outcome.{done, leaving}
+use Rattle.uslp_kinds.specs.Answers.{paperLength}
+use Rattle.uslp_kinds.specs.declared.LengthAnswer.{LengthAnswer}
+use Rattle.uslp_writer.specs.Reserved.{finishLength}
+use Rattle.uslp_writer.proofs.Finishes.{fecf-room, finishing-refused, finishing-fecf, finishing-plain}
+use borrow.Author.Needs.{needs}
+use Rattle.uslp_writer.proofs.TransferFrameCreatorWithReservedData.finish.Statement.{statement}
+use Rattle.uslp_writer.proofs.TransferFrameCreatorWithReservedData.finish.Tie as tie
+
+-- what `finish_len` answered
+given : (d : tie.After-finish-len) {x : LengthAnswer} → d .finish-len .result ≡ x
+    → finishLength (d .before .before .args .self) (length (d .before .before .args .buf .now)) ≡ paperLength x
+given d e = sym (d .finish-len .ensures) ∙ ap paperLength e
+
+finish-len-requires : tie.Need-finish-len-requires
+finish-len-requires c κs = search needs
+
+enum-known-refusal : tie.Need-enum-known-refusal
+enum-known-refusal c = search needs
+
+enum-known-total : tie.Need-enum-known-total
+enum-known-total c = search needs
+
+put-fecf-requires : tie.Need-put-fecf-requires
+put-fecf-requires c κs = fecf-room _ _ (given (c .before .before .before .before .before) (c .before .before .before .total .given .1)) (c .before .if1 .taken)
+
+same-length : tie.Need-same-length
+same-length c = search needs
+
+returns : tie.Need-returns
+returns c =
+    let a = c .before .before .before .before .before .before .before .before .before .before in
+    let e = given (c .before .before .before .before .before .before .before .before) (c .before .before .before .before .before .before .total .given .1) in
+    ap (leaving (done (c .before .before .before .before .before .before .total .given .0 .0))) (c .before .before .put-fecf .ensures)
+    ∙ sym (finishing-fecf (a .args .self) (a .args .buf .now) e (c .before .before .before .before .if1 .taken))
+
+returns-2 : tie.Need-returns-2
+returns-2 c =
+    let a = c .before .before .before .before .before in
+    sym (finishing-refused (a .args .self) (a .args .buf .now) (given (c .before .before .before) (c .before .refusal .given .1)))
+
+returns-3 : tie.Need-returns-3
+returns-3 c =
+    let a = c .before .before .before .before .before .before in
+    sym (finishing-plain (a .args .self) (a .args .buf .now) (given (c .before .before .before .before) (c .before .before .total .given .1)) (c .if1 .left))
+
+pub finish-spec : {M : Type 1} → statement M
+finish-spec =
+    tie.close
+    (tie.spec
+    finish-len-requires
+    enum-known-refusal
+    enum-known-total
+    put-fecf-requires
+    same-length
+    returns
+    returns-2
+    returns-3)

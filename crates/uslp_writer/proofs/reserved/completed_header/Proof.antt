@@ -1,0 +1,49 @@
+-- `completed_header` meets its contract: a total of at most 65,536 is not refused.
+-- Assumes nothing.
+use mathlib.Core.Path.{_≡_, ap, sym, _∙_}
+use Rattle.uslp_kinds.specs.Outcome.{done}
+use Rattle.uslp_kinds.proofs.Outcomes.{not-done, done-one}
+use Rattle.uslp_primary_header.specs.Header.{paperHeader, withLength}
+use Rattle.uslp_primary_header.specs.declared.PrimaryHeader.{PrimaryHeader}
+use Rattle.uslp_primary_header.proofs.Making.{length-done}
+use Rattle.uslp_writer.specs.Frame.{completed}
+use borrow.Author.Needs.{needs}
+use Rattle.uslp_writer.proofs.reserved.completed_header.Statement.{statement}
+use Rattle.uslp_writer.proofs.reserved.completed_header.Tie as tie
+
+-- the answer of setting the length
+set : (d : tie.After-with-frame-len) → paperHeader (d .with-frame-len .result) ≡ done (completed (d .before .before .args .frame) (d .before .before .args .total))
+set d =
+    let a = d .before .before in
+    d .with-frame-len .ensures
+    ∙ length-done _ (a .args .total) (a .pre)
+    ∙ ap (λ (h : PrimaryHeader). done (withLength (a .args .total) h)) (d .before .with-ocf-flag .ensures)
+
+with-ocf-flag-requires : tie.Need-with-ocf-flag-requires
+with-ocf-flag-requires c κs = search needs
+
+with-frame-len-requires : tie.Need-with-frame-len-requires
+with-frame-len-requires c κs = search needs
+
+enum-known-completed : tie.Need-enum-known-completed
+enum-known-completed c = search needs
+
+enum-told : tie.Need-enum-told
+enum-told c = search needs
+
+returns : tie.Need-returns
+returns c = done-one (sym (ap paperHeader (c .before .completed .given .1)) ∙ set (c .before .before .before))
+
+returns-2 : tie.Need-returns-2
+returns-2 c = absurd (not-done (sym (ap paperHeader (c .enum-told .given .1)) ∙ set (c .before .before)))
+
+pub completed-header-spec : {M : Type 1} → statement M
+completed-header-spec =
+    tie.close
+    (tie.spec
+    with-ocf-flag-requires
+    with-frame-len-requires
+    enum-known-completed
+    enum-told
+    returns
+    returns-2)

@@ -1,0 +1,65 @@
+-- `put_ocf` meets its contract: four octets are put, or none.
+-- Assumes nothing.
+use native.Mathlib.Omega.{arith}
+use lib.ListN.{length}
+use Rattle.uslp_layout.specs.Layout.{ocfOctets}
+use mathlib.Core.Path.{ap}
+use Rattle.uslp_writer.proofs.Flags.{ocf-put, ocf-kept}
+use borrow.Author.Needs.{needs}
+use Rattle.uslp_writer.proofs.reserved.put_ocf.Statement.{statement}
+use Rattle.uslp_writer.proofs.reserved.put_ocf.Tie as tie
+
+enum-known-ocf : tie.Need-enum-known-ocf
+enum-known-ocf c = search needs
+
+add-end : tie.Need-add-end
+add-end c = search needs
+
+cast-put-number : tie.Need-cast-put-number
+cast-put-number c = search needs
+
+sub-put-number : tie.Need-sub-put-number
+sub-put-number c = search needs
+
+part-put-number-start : tie.Need-part-put-number-start
+part-put-number-start c = search needs
+
+part-put-number-end : tie.Need-part-put-number-end
+part-put-number-end c =
+    let a = c .before .before .before .before in
+    omega (arith, ap (λ x. length (ocfOctets x)) (c .before .ocf .given .1), a .pre)
+
+put-number-requires : tie.Need-put-number-requires
+put-number-requires c κs = search needs
+
+enum-told : tie.Need-enum-told
+enum-told c = search needs
+
+same-length : tie.Need-same-length
+same-length c = search needs
+
+returns : tie.Need-returns
+returns c =
+    let a = c .before .before .before .before .before .before .before .before in
+    ocf-put (a .args .ocf) _ (a .args .at) (a .args .buf .now) _ (c .before .before .before .before .before .ocf .given .1) (a .pre) (c .before .before .put-number .ensures)
+
+returns-2 : tie.Need-returns-2
+returns-2 c =
+    let a = c .before .before .before in
+    ocf-kept (a .args .ocf) (a .args .at) (a .args .buf .now) (c .enum-told .given .1)
+
+pub put-ocf-spec : {M : Type 1} → statement M
+put-ocf-spec =
+    tie.close
+    (tie.spec
+    enum-known-ocf
+    add-end
+    cast-put-number
+    sub-put-number
+    part-put-number-start
+    part-put-number-end
+    put-number-requires
+    enum-told
+    same-length
+    returns
+    returns-2)
