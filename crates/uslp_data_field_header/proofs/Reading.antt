@@ -7,7 +7,7 @@ use Prim.Native.Nat.{ℕ, _/_, _%_, _<_, _≤_}
 use native.Mathlib.Omega.{arith}
 use borrow.Author.Tests.{lt-ltb, le-ltb}
 use lib.ListN.{length, getD}
-use Rattle.uslp_octets.specs.Octets.{word, bitsOf}
+use Rattle.uslp_octets.specs.Octets.{word, valueAt}
 use Rattle.uslp_kinds.specs.Outcome.{done, refused}
 use Rattle.uslp_kinds.specs.Kinds.{rules, ruleOf, fixedLength, protocolOf}
 use Rattle.uslp_kinds.specs.declared.ConstructionRule.{ConstructionRule}
@@ -15,15 +15,15 @@ use Rattle.uslp_kinds.specs.declared.ConstructionRule.the-variants.{NoSegmentat
 use Rattle.uslp_kinds.specs.declared.UslpProtocolId.{UslpProtocolId}
 use Rattle.uslp_kinds.specs.declared.FhpOrLvo.{FhpOrLvo}
 use Rattle.uslp_kinds.specs.declared.FhpOrLvo.the-variants.{Absent, Present}
-use Rattle.uslp_data_field_header.specs.Field.{ruleIn, withProtocol, fieldReading}
+use Rattle.uslp_data_field_header.specs.Field.{firstIn, ruleIn, numberIn, withProtocol, fieldReading}
 
 -- the first octet's high three bits and low five
 pub rule-at : (s : List ℕ) → ruleIn s ≡ ruleOf (getD s 0 0 / 32)
 rule-at s =
-    let e : bitsOf 1 0 3 s % 8 ≡ getD s 0 0 / 32 % 8 = omega arith in
+    let e : valueAt 0 (firstIn s) % 8 ≡ getD s 0 0 / 32 % 8 = omega arith in
     ap (λ (n : ℕ). getD rules n NoSegmentation) e
 
-pub number-at : (s : List ℕ) → bitsOf 1 3 5 s ≡ getD s 0 0 % 32
+pub number-at : (s : List ℕ) → numberIn s ≡ getD s 0 0 % 32
 number-at s = omega arith
 
 pub reading-none : (s : List ℕ) → length s < 1 → fieldReading s ≡ refused 1 (length s ∷ 1 ∷ [])
@@ -31,7 +31,7 @@ unfolding fieldReading
 reading-none s h = rw (lt-ltb _ _ h)
 
 -- with one octet, by its rule and the number of its protocol id
-module _ (s : List ℕ) (one : 1 ≤ length s) (rule : ConstructionRule) (n : ℕ) (has : ruleIn s ≡ rule) (low : bitsOf 1 3 5 s ≡ n) where
+module _ (s : List ℕ) (one : 1 ≤ length s) (rule : ConstructionRule) (n : ℕ) (has : ruleIn s ≡ rule) (low : numberIn s ≡ n) where
   module _ (fixed : fixedLength rule ≡ true) where
     pub reading-short : length s < 3 → fieldReading s ≡ refused 1 (length s ∷ 3 ∷ [])
     unfolding fieldReading

@@ -9,7 +9,7 @@ use borrow.Author.Tests.{ltb-false}
 use lib.Dec.{ltb}
 use lib.ListN.{length, take, drop, getD}
 use lib.Seq.{take-suc, take-add}
-use Rattle.uslp_octets.specs.Octets.{AreOctets, pack, octets, word, bitsOf}
+use Rattle.uslp_octets.specs.Octets.{AreOctets, pack, octets, word}
 use Rattle.uslp_octets.proofs.Laws.{word-octets, octets-word, word-lt, cons-eq}
 use Rattle.uslp_kinds.specs.Outcome.{Outcome, done, refused, andThen, leaving}
 use Rattle.uslp_kinds.specs.Kinds.{ruleNumber, ruleOf, fixedLength, protocolNumber, protocolOf}
@@ -19,7 +19,7 @@ use Rattle.uslp_kinds.specs.declared.FhpOrLvo.{FhpOrLvo}
 use Rattle.uslp_kinds.specs.declared.FhpOrLvo.the-variants.{Absent, Present}
 use Rattle.uslp_kinds.proofs.Cases.{rule-back, rule-number, protocol-case, protocol-lt}
 use Rattle.uslp_kinds.proofs.Back.{back, refusal-back}
-use Rattle.uslp_data_field_header.specs.Field.{paperField, pointerBad, fieldTable, lenField, fieldChecking, ruleIn, pointerIn, withProtocol, fieldReading, fieldWriting, Fitting}
+use Rattle.uslp_data_field_header.specs.Field.{paperField, pointerBad, fieldTable, lenField, fieldChecking, ruleIn, numberIn, pointerIn, withProtocol, fieldReading, fieldWriting, Fitting}
 use Rattle.uslp_data_field_header.specs.declared.TransferFrameDataFieldHeader.{TransferFrameDataFieldHeader}
 use Rattle.uslp_data_field_header.specs.declared.DataFieldHeaderAnswer.{DataFieldHeaderAnswer}
 use Rattle.uslp_data_field_header.specs.declared.DataFieldHeaderAnswer.the-variants as field-answer
@@ -44,7 +44,7 @@ module _ (f : TransferFrameDataFieldHeader) (s : List ℕ) (first : getD s 0 0 �
       let q : getD s 0 0 / 32 ≡ ruleNumber (f .«construction_rule») = omega (arith, protocol-lt (f .«uslp_protocol_id»)) in
       rule-at s ∙ ap ruleOf q ∙ rule-back (f .«construction_rule»)
 
-  number-first : bitsOf 1 3 5 s ≡ protocolNumber (f .«uslp_protocol_id»)
+  number-first : numberIn s ≡ protocolNumber (f .«uslp_protocol_id»)
   number-first =
       let q : getD s 0 0 % 32 ≡ protocolNumber (f .«uslp_protocol_id») = omega (arith, protocol-lt (f .«uslp_protocol_id»)) in
       number-at s ∙ q
@@ -97,7 +97,7 @@ record ReadFrom (s : List ℕ) (f : TransferFrameDataFieldHeader) : Type 0 where
   one : 1 ≤ length s
   enough : fixedLength (ruleIn s) && ltb (length s) 3 ≡ false
   rule : f .«construction_rule» ≡ ruleIn s
-  number : protocolNumber (f .«uslp_protocol_id») ≡ bitsOf 1 3 5 s
+  number : protocolNumber (f .«uslp_protocol_id») ≡ numberIn s
   pointer : f .«fhp_or_lvo» ≡ pointerIn s
 
 read-from : (s : List ℕ) (f : TransferFrameDataFieldHeader) → fieldReading s ≡ done f → ReadFrom s f
@@ -105,7 +105,7 @@ unfolding fieldReading
 read-from s f e =
     let a = passed 1 (length s ∷ 1 ∷ []) (ltb (length s) 1) _ e in
     let b = passed 1 (length s ∷ 3 ∷ []) (fixedLength (ruleIn s) && ltb (length s) 3) _ (a .1) in
-    let w = with-parts (ruleIn s) (pointerIn s) (protocolOf (bitsOf 1 3 5 s)) (b .1) in
+    let w = with-parts (ruleIn s) (pointerIn s) (protocolOf (numberIn s)) (b .1) in
     record { one = ltb-false _ _ (a .0); enough = b .0; rule = w .0; number = protocol-number _ (w .1); pointer = w .2 }
 
 long-enough : (fixed : Bool) (n : ℕ) → 1 ≤ n → fixed && ltb n 3 ≡ false → cond fixed 3 1 ≤ n

@@ -5,13 +5,15 @@ use mathlib.Core.Bool.{Bool, not, _&&_, cond}
 use mathlib.Core.List.{List, [], _∷_, _++_}
 use lib.ListN.{length, drop}
 use lib.Dec.{ltb}
-use Rattle.uslp_octets.specs.Octets.{pack, word, bitsOf}
+use Rattle.uslp_octets.specs.Octets.{pack, unpack, valueAt, word}
 use Rattle.uslp_octets.specs.Octets as octets
 use Rattle.uslp_kinds.specs.Outcome.{Outcome, done, refused, andThen, Written, written, firstOf}
 use Rattle.uslp_kinds.specs.Kinds.{ruleNumber, ruleOf, fixedLength, protocolNumber, protocolOf}
 use Rattle.uslp_kinds.specs.Answers.{refusal}
 use Rattle.uslp_kinds.specs.declared.ConstructionRule.{ConstructionRule}
+use Rattle.uslp_kinds.specs.declared.ConstructionRule.the-variants.{NoSegmentation}
 use Rattle.uslp_kinds.specs.declared.UslpProtocolId.{UslpProtocolId}
+use Rattle.uslp_kinds.specs.declared.UslpProtocolId.the-variants.{Idle}
 use Rattle.uslp_kinds.specs.declared.FhpOrLvo.{FhpOrLvo}
 use Rattle.uslp_kinds.specs.declared.FhpOrLvo.the-variants.{Absent, Present}
 use Rattle.uslp_data_field_header.specs.declared.TransferFrameDataFieldHeader.{TransferFrameDataFieldHeader}
@@ -22,14 +24,16 @@ abbrev pub paperField : DataFieldHeaderAnswer → Outcome TransferFrameDataField
 paperField (field-answer.Done f) = done f
 paperField (field-answer.Refused r) = refusal r
 
--- two octets of pointer, or none
+-- the fields of the first octet from the first bit on, each with its width; then two octets of pointer, or none
+abbrev pub firstTable : ConstructionRule → UslpProtocolId → List octets.Field
+firstTable rule id = (3, ruleNumber rule) ∷ (5, protocolNumber id) ∷ []
+
 abbrev pub pointerRow : FhpOrLvo → List octets.Field
 pointerRow Absent = []
 pointerRow (Present p) = (16, p) ∷ []
 
--- the fields from the first bit on, each with its width
 abbrev pub fieldTable : TransferFrameDataFieldHeader → List octets.Field
-fieldTable f = (3, ruleNumber (f .«construction_rule»)) ∷ (5, protocolNumber (f .«uslp_protocol_id»)) ∷ pointerRow (f .«fhp_or_lvo»)
+fieldTable f = firstTable (f .«construction_rule») (f .«uslp_protocol_id») ++ pointerRow (f .«fhp_or_lvo»)
 
 -- rules 0 to 2 have the pointer
 abbrev pub lenFor : ConstructionRule → ℕ
@@ -57,9 +61,15 @@ fieldChecks f = (pointerBad (f .«construction_rule») (f .«fhp_or_lvo»), refu
 unfoldable pub fieldChecking : TransferFrameDataFieldHeader → Outcome TransferFrameDataFieldHeader
 fieldChecking f = firstOf (fieldChecks f) (done f)
 
--- the rule in the first three bits, and the pointer behind the first octet
+-- the rule and the number of the protocol id in the first octet, and the pointer behind it
+abbrev pub firstIn : List ℕ → List octets.Field
+firstIn s = unpack (firstTable NoSegmentation Idle) s
+
 abbrev pub ruleIn : List ℕ → ConstructionRule
-ruleIn s = ruleOf (bitsOf 1 0 3 s)
+ruleIn s = ruleOf (valueAt 0 (firstIn s))
+
+abbrev pub numberIn : List ℕ → ℕ
+numberIn s = valueAt 1 (firstIn s)
 
 abbrev pub pointerIn : List ℕ → FhpOrLvo
 pointerIn s = cond (fixedLength (ruleIn s)) (Present (word 1 2 s)) Absent
@@ -77,7 +87,7 @@ fieldReading s =
     ((ltb (length s) 1, refused 1 (length s ∷ 1 ∷ []))
     ∷ (fixedLength (ruleIn s) && ltb (length s) 3, refused 1 (length s ∷ 3 ∷ []))
     ∷ [])
-    (withProtocol (ruleIn s) (bitsOf 1 3 5 s) (pointerIn s))
+    (withProtocol (ruleIn s) (numberIn s) (pointerIn s))
 
 -- writing one over octets s: 9, 2; the octets past it stay
 unfoldable pub fieldWriting : TransferFrameDataFieldHeader → List ℕ → Written ℕ

@@ -5,12 +5,13 @@ use Prim.Native.Nat.{ℕ, zero, suc, _+_, _*_, _/_, _%_, _^_, _-_, _<_, _≤_}
 use mathlib.Core.List.{List, [], _∷_, _++_, append-nil}
 use native.Mathlib.Omega.{arith}
 use native.Mathlib.Numerals.{add-one}
-use native.Mathlib.Nat.{mul-suc, pow-suc, mul-add-div-right, div-div-eq-div-mul, suc-add, zero-add, mul-assoc, one-le-pow, div-eq-of-lt, mul-comm, add-comm, add-mul, add-zero, add-assoc, sub-zero, le-refl, div-one, pow-zero}
-use lib.Pow.{pow-add}
+use native.Mathlib.Nat.{mul-suc, pow-suc, mul-add-div-right, div-div-eq-div-mul, suc-add, zero-add, mul-assoc, one-le-pow, div-eq-of-lt, mul-comm, add-comm, add-mul, add-zero, add-assoc, sub-zero, le-refl, div-one, pow-zero, mod-eq-of-lt}
+use lib.Pow.{pow-add, mod-pow-add, high, low}
+use lib.Arith.{digits-lt}
 use lib.Dec.{lit<}
 use lib.ListN.{length, take, drop, getD, set, length-drop, List·getD-append}
 use lib.Seq.{getD-append-add, getD-drop, getD-take, take-suc, append-snoc, set-at, length-take-le, take-length}
-use Rattle.uslp_octets.specs.Octets.{AreOctets, Field, bitsIn, valueOf, octets, pack, word}
+use Rattle.uslp_octets.specs.Octets.{AreOctets, Field, bitsIn, valueOf, Fits, split, octets, pack, unpack, word}
 
 pub pow-eight : (w : ℕ) → 2 ^ (8 * w) ≡ 256 ^ w
 pow-eight zero = refl
@@ -72,6 +73,33 @@ pack-append k w n fs e h =
     value-append fs ((8 * w, n) ∷ []) ∙ rw p (omega arith) in
     rw (b, v) (octets-append k w (valueOf fs) n h)
 
+-- splitting the number of a row that fits gives the row, whatever stands above it
+pub value-lt : (fs : List Field) → Fits fs → valueOf fs < 2 ^ bitsIn fs
+value-lt [] h = lit< tt
+value-lt (f ∷ fs) h = rw (pow-add 2 (f .0) (bitsIn fs)) (digits-lt (h .0) (value-lt fs (h .1)))
+
+field-eq : {w a b : ℕ} {fs gs : List Field} → a ≡ b → fs ≡ gs → (w, a) ∷ fs ≡ (w, b) ∷ gs
+field-eq p q = cc
+
+split-value : (fs : List Field) (q : ℕ) → Fits fs → split fs (q * 2 ^ bitsIn fs + valueOf fs) ≡ fs
+split-value [] q h = refl
+split-value (f ∷ fs) q h =
+    let e : q * 2 ^ (f .0 + bitsIn fs) + (f .1 * 2 ^ bitsIn fs + valueOf fs) ≡ (q * 2 ^ f .0 + f .1) * 2 ^ bitsIn fs + valueOf fs =
+    rw pow-add (regroup q (2 ^ f .0) (2 ^ bitsIn fs) (f .1) (valueOf fs)) in
+    rw e
+    (field-eq
+    (ap (λ (y : ℕ). y % 2 ^ f .0) (high (q * 2 ^ f .0 + f .1) (bitsIn fs) (value-lt fs (h .1))) ∙ low q (f .0) (h .0))
+    (split-value fs (q * 2 ^ f .0 + f .1) (h .1)))
+
+-- the number of the row that a number was split into
+bits-split : (fs : List Field) (n : ℕ) → bitsIn (split fs n) ≡ bitsIn fs
+bits-split [] n = refl
+bits-split (f ∷ fs) n = ap (λ (b : ℕ). f .0 + b) (bits-split fs n)
+
+value-split : (fs : List Field) (n : ℕ) → valueOf (split fs n) ≡ n % 2 ^ bitsIn fs
+value-split [] n = omega arith
+value-split (f ∷ fs) n = rw (bits-split fs n, value-split fs n) (sym (mod-pow-add n (f .0) (bitsIn fs)))
+
 -- the number of w octets that stand behind p: the first k of them make its high part, all of them the number
 module _ (p t : List ℕ) (w n : ℕ) (fits : n < 256 ^ w) where
   word-high : (k : ℕ) → k ≤ w → word (length p) k (p ++ (octets w n ++ t)) ≡ n / 256 ^ (w - k)
@@ -108,6 +136,24 @@ module _ (s : List ℕ) (i : ℕ) (oct : AreOctets s) where
   word-lt zero = lit< tt
   word-lt (suc w) = rw (pow-suc 256 w) (omega (arith, word-lt w, oct (i + w)))
 
+-- a row of whole octets: packed it is unpacked to itself, and octets unpacked pack to themselves
+module _ (fs : List Field) (k : ℕ) (whole : bitsIn fs ≡ 8 * k) where
+  eighth : bitsIn fs / 8 ≡ k
+  eighth = omega arith
+
+  power : 2 ^ bitsIn fs ≡ 256 ^ k
+  power = rw whole (pow-eight k)
+
+  pub unpack-pack : (t : List ℕ) → Fits fs → unpack fs (pack fs ++ t) ≡ fs
+  unpack-pack t h =
+      let small : valueOf fs < 256 ^ k = rw power at (value-lt fs h) in
+      let alone : 0 * 2 ^ bitsIn fs + valueOf fs ≡ valueOf fs = omega arith in
+      rw (eighth, word-octets [] t k (valueOf fs) small, ← alone) (split-value fs 0 h)
+
+  pub pack-unpack : (s : List ℕ) → AreOctets s → k ≤ length s → pack (unpack fs s) ≡ take k s
+  pack-unpack s oct h =
+      rw (bits-split, value-split, power, eighth, mod-eq-of-lt (word-lt s 0 oct k)) (octets-word s 0 oct k (omega arith))
+
 -- a word of a part of the octets stands in the whole of them
 pub word-drop : (i j n : ℕ) (s : List ℕ) → word j n (drop i s) ≡ word (i + j) n s
 word-drop i j zero s = refl
@@ -116,6 +162,13 @@ word-drop i j (suc n) s = rw (word-drop i j n s, getD-drop, add-assoc)
 pub word-take : (i n k : ℕ) (s : List ℕ) → i + n ≤ k → word i n (take k s) ≡ word i n s
 word-take i zero k s h = refl
 word-take i (suc n) k s h = rw (word-take i n k s (omega arith), getD-take k s (i + n) 0 (omega arith))
+
+-- the word of a part, as a range cuts it
+pub word-part : (i w : ℕ) (s : List ℕ) → i + w ≤ length s → word 0 (length (take (i + w - i) (drop i s))) (take (i + w - i) (drop i s)) ≡ word i w s
+word-part i w s h =
+    let z : i + w - i ≡ w = omega arith in
+    rw (z, length-take-le w (drop i s) (omega (arith, length-drop i s)))
+    (word-take 0 w w (drop i s) (omega arith) ∙ word-drop i 0 w s ∙ ap (λ (m : ℕ). word m w s) (add-zero i))
 
 -- a run of cells filled from the end, whatever the cells: one more in front, all of them, none of them
 module _ (run : ℕ → List ℕ) (cell : ℕ → ℕ) (more : (k : ℕ) → run (suc k) ≡ cell k ∷ run k) (d : List ℕ) where

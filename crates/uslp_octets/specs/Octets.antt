@@ -1,5 +1,5 @@
 -- Numbers and rows of bit fields as octets. The first octet and the first field are the most significant, as CCSDS documents draw them.
-use Prim.Native.Nat.{ℕ, zero, suc, _+_, _*_, _/_, _%_, _^_, _-_, _<_}
+use Prim.Native.Nat.{ℕ, zero, suc, _+_, _*_, _/_, _%_, _^_, _<_}
 use mathlib.Core.List.{List, [], _∷_, _++_}
 use lib.ListN.{length, take, drop, getD}
 
@@ -30,13 +30,26 @@ abbrev pub valueOf : List Field → ℕ
 valueOf [] = 0
 valueOf (f ∷ fs) = f .1 * 2 ^ bitsIn fs + valueOf fs
 
--- the octets that a row of fields makes
+-- each value fits its bits
+abbrev pub Fits : List Field → Type 0
+Fits [] = Unit {0}
+Fits (f ∷ fs) = (f .1 < 2 ^ f .0) × Fits fs
+
+-- a row of the same widths, with the values that a number has there
+abbrev pub split : List Field → ℕ → List Field
+split [] n = []
+split (f ∷ fs) n = (f .0, n / 2 ^ bitsIn fs % 2 ^ f .0) ∷ split fs n
+
+-- the octets that a row of fields makes, and the row of the same widths that octets make; octets that are missing count as 0
 abbrev pub pack : List Field → List ℕ
 pack fs = octets (bitsIn fs / 8) (valueOf fs)
 
--- of the first k octets, the number that the w bits from bit i on make; bit 0 is the most significant of the first octet
-abbrev pub bitsOf : ℕ → ℕ → ℕ → List ℕ → ℕ
-bitsOf k i w s = word 0 k s / 2 ^ (8 * k - (i + w)) % 2 ^ w
+abbrev pub unpack : List Field → List ℕ → List Field
+unpack fs s = split fs (word 0 (bitsIn fs / 8) s)
+
+-- the value of field i, from 0 on
+abbrev pub valueAt : ℕ → List Field → ℕ
+valueAt i fs = getD fs i (0, 0) .1
 
 -- the octets t with s laid over them from the front, as far as both reach
 abbrev pub overlaid : List ℕ → List ℕ → List ℕ

@@ -1,8 +1,8 @@
 // Octets: copying them between slices, and numbers as octets, big-endian.
 ghost use mathlib.Core.Path.{_≡_};
-ghost use Prim.Native.Nat.{_+_, _*_};
+ghost use Prim.Native.Nat.{_+_, _*_, _≤_};
 ghost use lib.ListN.{length};
-ghost use Rattle.uslp_octets.specs.Octets.{octets, overlaid};
+ghost use Rattle.uslp_octets.specs.Octets.{octets, word, overlaid};
 
 // Copies as many octets as both slices have; the rest of `to` stays.
 pub fn copy_octets(from: &[u8], to: &mut [u8])
@@ -38,4 +38,18 @@ pub fn be_u32(a: u8, b: u8, c: u8, d: u8) -> u32
     ensures { λ r. ⌜ r ≡ ((a * 256 + b) * 256 + c) * 256 + d ⌝ }
 {
     ((a as u32 * 256 + b as u32) * 256 + c as u32) * 256 + d as u32
+}
+
+// The number that `width` octets make, at most eight, from place `at` on.
+pub fn number_in(octets: &[u8], at: usize, width: usize) -> u64
+    requires { ⌜ (width ≤ 8) × (at + width ≤ length (now octets)) ⌝ }
+    ensures { λ r. ⌜ r ≡ word at width (now (octets .entry)) ⌝ }
+{
+    let mut number: u64 = 0;
+    let mut i: usize = 0;
+    while i < width {
+        number = number * 256 + octets[at + i] as u64;
+        i += 1;
+    }
+    number
 }

@@ -2,34 +2,31 @@
 -- And when two headers are the same but for the count's width, and that an answer on paper loses nothing.
 -- Assumes nothing.
 use mathlib.Core.Path.{_≡_, refl, ap, ap₂, sym, _∙_, subst}
-use Prim.Native.Nat.{ℕ, _+_, _/_, _%_, _<_, _≤_}
+use Prim.Native.Nat.{ℕ, _+_, _/_, _<_, _≤_}
 use mathlib.Core.List.{List, [], _∷_, _++_}
 use mathlib.Core.Bool.{Bool, true, false, not, _&&_}
 use mathlib.Core.Logic.{_↔_}
 use native.Mathlib.Omega.{arith}
+use native.Mathlib.Nat.{mod-lt}
 use native.Mathlib.Decide.{decLt}
-use borrow.Author.Tests.{ltb-false, eqb-true, eqb-false, eq-eqb, not-false}
-use lib.ListN.{length, take, drop, getD, length-append}
+use borrow.Author.Tests.{ltb-false, le-ltb, eqb-true, eqb-false, eq-eqb, not-false}
+use lib.ListN.{length, take, drop, length-append}
 use lib.Seq.{take-add}
 use lib.Dec.{lit<, ltb, eqb}
-use Rattle.uslp_octets.specs.Octets.{AreOctets, bitsIn, octets, pack, bitsOf}
-use Rattle.uslp_octets.proofs.Laws.{length-octets, octets-word, word-lt}
+use Rattle.uslp_octets.specs.Octets.{AreOctets, Field, bitsIn, octets, pack, word, valueAt}
+use Rattle.uslp_octets.proofs.Laws.{length-octets, octets-word, word-octets, word-lt, unpack-pack, pack-unpack}
 use Rattle.uslp_kinds.specs.Outcome.{Outcome, done, refused, leaving}
 use Rattle.uslp_kinds.specs.Kinds.{sourceOrDestNumber, sourceOrDestOf, bypassNumber, bypassOf, commandNumber, commandOf}
 use Rattle.uslp_kinds.proofs.Cases.{source-back, bypass-back, command-back}
 use Rattle.uslp_kinds.proofs.Back.{back, refusal-back, one-to-one, leaving-one}
-use Rattle.uslp_primary_header.specs.Header.{paperHeader, flag, field, table, lenHeader, withCount, sameButWidth, headerIn, headerChecking, headerReading, headerWriting}
+use Rattle.uslp_kinds.proofs.Outcomes.{not-done}
+use Rattle.uslp_kinds.proofs.Firsts.{Check, Passing, first-done}
+use Rattle.uslp_primary_header.specs.Header.{paperHeader, flag, fixedTable, table, lenHeader, withCount, sameButWidth, headerOf, format, rowsIn, spareIn, readingOf, headerChecking, headerReading, headerWriting, Fitting}
 use Rattle.uslp_primary_header.specs.declared.PrimaryHeader.{PrimaryHeader}
 use Rattle.uslp_primary_header.specs.declared.HeaderAnswer.{HeaderAnswer}
 use Rattle.uslp_primary_header.specs.declared.HeaderAnswer.the-variants as header-answer
-use Rattle.uslp_kinds.proofs.Outcomes.{not-done}
-use Rattle.uslp_kinds.proofs.Firsts.{Check, Passing, first-done}
-use Rattle.uslp_primary_header.proofs.Checks.{width-in, checks-done, checks-same}
-use Rattle.uslp_primary_header.proofs.Fields.{header-eq, headerAt, front, header-at, truncated-at, version-at, spare-at}
-use Rattle.uslp_primary_header.specs.Header.{Fitting}
-use Rattle.uslp_primary_header.proofs.ReadPaths.{reading-done}
-use Rattle.uslp_primary_header.proofs.Seven.{seven-front, seven-header, seven-back}
-use Rattle.uslp_primary_header.proofs.Table.{flag-back, seven, table-octets}
+use Rattle.uslp_primary_header.proofs.Checks.{count-in, checks-done, checks-same}
+use Rattle.uslp_primary_header.proofs.Rows.{header-eq, flag-back, rows-header, rows-fit, rows-back, table-split}
 use Rattle.uslp_primary_header.proofs.WritePaths.{writing-refused, writing-short, writing-done}
 
 pub length-table : (spare : ℕ) (h : PrimaryHeader) → length (pack (table spare h)) ≡ lenHeader h
@@ -39,74 +36,72 @@ length-table spare h =
 
 -- any value of the spare bits, and any octets behind the header
 pub layout-read : (spare : ℕ) (h : PrimaryHeader) (t : List ℕ) → spare < 4 → Fitting h → headerReading (pack (table spare h) ++ t) ≡ done h
+unfolding headerReading
 layout-read spare h t small f =
     let w : ℕ = h .«vc_frame_count_len» in
-    let rest : List ℕ = octets (h .«vc_frame_count_len») (h .«vc_frame_count») ++ t in
-    let o = seven-front spare h rest small f in
-    let fits = width-in h (f .checks-pass) in
-    rw (table-octets spare h small f)
-    (reading-done (seven spare h ++ rest) o (omega arith) (λ e. omega arith) (omega arith) (omega (arith, f .spacecraft-fits))
-    (omega (arith, length-append (octets w (h .«vc_frame_count»)) t, length-octets w (h .«vc_frame_count»)))
-    ∙ ap done (header-at (seven spare h ++ rest) o ∙ seven-header spare h t small f))
+    let n : ℕ = h .«vc_frame_count» in
+    let s : List ℕ = pack (fixedTable spare h) ++ (octets w n ++ t) in
+    let room : 7 + w ≤ length s = omega (arith, length-append (octets w n) t, length-octets w n) in
+    rw (table-split spare h (f .checks-pass))
+    (ap (λ (rows : List Field). readingOf rows s) (unpack-pack (fixedTable spare h) 7 refl (octets w n ++ t) (rows-fit spare h small f))
+    ∙ simp (le-ltb (length s) 4 (omega arith), le-ltb (length s) 7 (omega arith), le-ltb (length s) (7 + w) room, word-octets (pack (fixedTable spare h)) t w n (count-in h (f .checks-pass)))
+    (ap done (rows-header spare h)))
 
--- the checks of reading, as tests
-abbrev tests : List ℕ → List Check
-tests s =
+-- the checks of reading, as tests, and the header that stands in the octets
+abbrev tests : List Field → List ℕ → List Check
+tests rows s =
     (ltb (length s) 4, 1, length s ∷ 4 ∷ [])
-    ∷ (eqb (bitsOf 4 31 1 s) 1, 3, [])
+    ∷ (eqb (valueAt 5 rows) 1, 3, [])
     ∷ (ltb (length s) 7, 1, length s ∷ 7 ∷ [])
-    ∷ (not (eqb (field 0 4 s) 12), 4, field 0 4 s ∷ [])
-    ∷ (ltb (length s) (7 + field 53 3 s), 1, length s ∷ (7 + field 53 3 s) ∷ [])
+    ∷ (not (eqb (valueAt 0 rows) 12), 4, valueAt 0 rows ∷ [])
+    ∷ (ltb (length s) (7 + valueAt 11 rows), 1, length s ∷ (7 + valueAt 11 rows) ∷ [])
     ∷ []
+
+abbrev headerIn : List ℕ → PrimaryHeader
+headerIn s = headerOf (rowsIn s) (word 7 (valueAt 11 (rowsIn s)) s)
 
 -- what was read: no test held, and the header is the one that stands in the octets
 module _ (s : List ℕ) (h : PrimaryHeader) (e : headerReading s ≡ done h) where
-  read-passed : Passing (tests s) × (headerIn s ≡ h)
+  read-passed : Passing (tests (rowsIn s) s) × (headerIn s ≡ h)
   unfolding headerReading
-  read-passed = first-done (tests s) e
+  read-passed = first-done (tests (rowsIn s) s) e
 
   pub read-long : lenHeader h ≤ length s
-  read-long = omega (arith, ltb-false (length s) (7 + field 53 3 s) (read-passed .0 4), ap (λ (k : PrimaryHeader). k .«vc_frame_count_len») (read-passed .1))
+  read-long = rw (sym (read-passed .1)) (ltb-false (length s) (lenHeader (headerIn s)) (read-passed .0 4))
 
 -- the header that stands in octets fits, and is laid out as they are
-module _ (s : List ℕ) (oct : AreOctets s) where
-  fitting-at : Fitting (headerAt s)
-  fitting-at =
-      record {
-        spacecraft-fits = omega (arith, oct 0, oct 1, oct 2);
-        length-fits = omega (arith, oct 4, oct 5);
-        checks-pass = checks-done (headerAt s) (omega (arith, oct 2, oct 3)) (omega arith) (omega arith) (word-lt s 7 oct (getD s 6 0 % 8));
-      }
+fitting-in : (s : List ℕ) → AreOctets s → Fitting (headerIn s)
+fitting-in s oct =
+    record {
+      spacecraft-fits = mod-lt _ (lit< tt);
+      length-fits = mod-lt _ (lit< tt);
+      checks-pass = checks-done (headerIn s) (omega arith) (omega arith) (omega arith) (word-lt s 7 oct (valueAt 11 (rowsIn s)));
+    }
 
-  layout-at : 7 + getD s 6 0 % 8 ≤ length s → getD s 0 0 / 16 ≡ 12 → getD s 3 0 % 2 ≡ 0
-      → take (7 + getD s 6 0 % 8) s ≡ pack (table (field 50 2 s) (headerAt s))
-  layout-at long version even =
-      let f = front s oct in
-      take-add 7 (getD s 6 0 % 8) s
-      ∙ sym
-      (ap (λ (z : ℕ). pack (table z (headerAt s))) (spare-at s f)
-      ∙ table-octets (getD s 6 0 / 16 % 4) (headerAt s) (omega arith) fitting-at
-      ∙ ap₂ (λ (a b : List ℕ). a ++ b) (seven-back s f (omega arith) version even) (octets-word s 7 oct (getD s 6 0 % 8) long))
+layout-in : (s : List ℕ) → AreOctets s → lenHeader (headerIn s) ≤ length s → valueAt 0 (rowsIn s) ≡ 12 → valueAt 5 (rowsIn s) ≡ 0
+    → take (lenHeader (headerIn s)) s ≡ pack (table (spareIn s) (headerIn s))
+layout-in s oct long version whole =
+    let w : ℕ = valueAt 11 (rowsIn s) in
+    take-add 7 w s
+    ∙ sym
+    (table-split (spareIn s) (headerIn s) (fitting-in s oct .checks-pass)
+    ∙ ap₂ (λ (a b : List ℕ). a ++ b)
+    (ap pack (rows-back (word 0 7 s) (word 7 w s) version whole) ∙ pack-unpack format 7 refl s oct (omega arith))
+    (octets-word s 7 oct w long))
 
 module _ (s : List ℕ) (h : PrimaryHeader) (oct : AreOctets s) (e : headerReading s ≡ done h) where
-  same-at : headerAt s ≡ h
-  same-at = sym (header-at s (front s oct)) ∙ read-passed s h e .1
-
   pub read-fitting : Fitting h
-  read-fitting = subst Fitting same-at (fitting-at s oct)
+  read-fitting = subst Fitting (read-passed s h e .1) (fitting-in s oct)
 
-  pub read-layout : take (lenHeader h) s ≡ pack (table (field 50 2 s) h)
+  pub read-layout : take (lenHeader h) s ≡ pack (table (spareIn s) h)
   read-layout =
-      let p = read-passed s h e .0 in
-      let version : field 0 4 s ≡ 12 = eqb-true _ _ (not-false _ (p 3)) in
-      let whole = eqb-false (bitsOf 4 31 1 s) 1 (p 1) in
-      let at : bitsOf 4 31 1 s ≡ getD s 3 0 % 2 = truncated-at s (front s oct) in
-      let long : lenHeader (headerAt s) ≤ length s = subst (λ (k : PrimaryHeader). lenHeader k ≤ length s) (sym same-at) (read-long s h e) in
-      subst (λ (k : PrimaryHeader). take (lenHeader k) s ≡ pack (table (field 50 2 s) k)) same-at
-      (layout-at s oct long (sym (version-at s (front s oct)) ∙ version) (omega (arith, whole)))
+      let p = read-passed s h e in
+      let whole : valueAt 5 (rowsIn s) ≡ 0 = omega (arith, eqb-false (valueAt 5 (rowsIn s)) 1 (p .0 1)) in
+      subst (λ (k : PrimaryHeader). take (lenHeader k) s ≡ pack (table (spareIn s) k)) (p .1)
+      (layout-in s oct (ltb-false (length s) (lenHeader (headerIn s)) (p .0 4)) (eqb-true _ _ (not-false _ (p .0 3))) whole)
 
 -- what was read with the spare bits 0, and then written, comes back
-pub read-written : (s t : List ℕ) (h : PrimaryHeader) → AreOctets s → headerReading s ≡ done h → field 50 2 s ≡ 0 → lenHeader h ≤ length t
+pub read-written : (s t : List ℕ) (h : PrimaryHeader) → AreOctets s → headerReading s ≡ done h → spareIn s ≡ 0 → lenHeader h ≤ length t
     → headerWriting h t ≡ leaving (done (lenHeader h)) (take (lenHeader h) s ++ drop (lenHeader h) t)
 read-written s t h oct e spare room =
     writing-done h t (read-fitting s h oct e .checks-pass) room

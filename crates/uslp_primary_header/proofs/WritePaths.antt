@@ -9,12 +9,12 @@ use borrow.Author.Tests.{le-ltb, lt-ltb}
 use lib.Dec.{ltb}
 use lib.ListN.{length, take, drop, length-drop}
 use lib.Seq.{length-take-le, drop-drop}
-use Rattle.uslp_octets.specs.Octets.{octets, pack}
+use Rattle.uslp_octets.specs.Octets.{octets, valueOf, pack}
 use Rattle.uslp_kinds.specs.Outcome.{Outcome, done, refused, leaving, written, firstOf}
 use Rattle.uslp_primary_header.specs.Header.{fixedTable, table, lenHeader, headerChecks, headerChecking, headerWriting}
 use Rattle.uslp_primary_header.specs.declared.PrimaryHeader.{PrimaryHeader}
 use Rattle.uslp_primary_header.proofs.Checks.{checks-refused, checks-passed, checks-same}
-use Rattle.uslp_primary_header.proofs.Table.{table-split}
+use Rattle.uslp_primary_header.proofs.Rows.{table-split}
 
 -- the check that follows those of the header
 abbrev room : PrimaryHeader → List ℕ → List (Bool × Outcome ℕ)
@@ -29,6 +29,11 @@ module _ (h : PrimaryHeader) (s : List ℕ) where
 
   pub writing-refused : {k : ℕ} {vs : List ℕ} → headerChecking h ≡ refused k vs → headerWriting h s ≡ leaving (refused k vs) s
   writing-refused e = answered (checks-refused h (room h s) (done (lenHeader h)) e)
+
+  -- the number of the fixed rows, over the first seven octets
+  pub fixed-put : 7 ≤ length s → {n : ℕ} {ys : List ℕ} → n ≡ valueOf (fixedTable 0 h) → ys ≡ octets (length (take 7 s)) n
+      → ys ++ drop 7 s ≡ pack (fixedTable 0 h) ++ drop 7 s
+  fixed-put long en ey = rw (ey, en, length-take-le 7 s long)
 
   module _ (e : headerChecking h ≡ done h) where
     pub writing-short : length s < lenHeader h → headerWriting h s ≡ leaving (refused 2 (length s ∷ lenHeader h ∷ [])) s

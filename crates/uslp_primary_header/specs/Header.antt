@@ -5,7 +5,7 @@ use mathlib.Core.Bool.{Bool, true, false, not, _&&_, _||_}
 use mathlib.Core.List.{List, [], _∷_, _++_}
 use lib.ListN.{length, drop}
 use lib.Dec.{ltb, leb, eqb}
-use Rattle.uslp_octets.specs.Octets.{Field, pack, word, bitsOf}
+use Rattle.uslp_octets.specs.Octets.{Field, pack, unpack, valueAt, word}
 use Rattle.uslp_kinds.specs.Outcome.{Outcome, done, refused, Written, written, firstOf}
 use Rattle.uslp_kinds.specs.Kinds.{sourceOrDestNumber, sourceOrDestOf, bypassNumber, bypassOf, commandNumber, commandOf}
 use Rattle.uslp_kinds.specs.Answers.{refusal}
@@ -27,18 +27,18 @@ flag false = 0
 -- the fields of the first seven octets, from the first bit on, each with its width; the two spare bits are a parameter
 abbrev pub fixedTable : ℕ → PrimaryHeader → List Field
 fixedTable spare h =
-    (4, 12)
-    ∷ (16, h .«spacecraft_id»)
-    ∷ (1, sourceOrDestNumber (h .«source_or_dest_field»))
-    ∷ (6, h .«vc_id»)
-    ∷ (4, h .«map_id»)
-    ∷ (1, 0)
-    ∷ (16, h .«frame_len_field»)
-    ∷ (1, bypassNumber (h .«sequence_control_flag»))
-    ∷ (1, commandNumber (h .«protocol_control_command_flag»))
-    ∷ (2, spare)
-    ∷ (1, flag (h .«ocf_flag»))
-    ∷ (3, h .«vc_frame_count_len»)
+    (4, 12)  -- 0: version
+    ∷ (16, h .«spacecraft_id»)  -- 1: spacecraft id
+    ∷ (1, sourceOrDestNumber (h .«source_or_dest_field»))  -- 2: source or destination
+    ∷ (6, h .«vc_id»)  -- 3: virtual channel
+    ∷ (4, h .«map_id»)  -- 4: MAP
+    ∷ (1, 0)  -- 5: truncation
+    ∷ (16, h .«frame_len_field»)  -- 6: length
+    ∷ (1, bypassNumber (h .«sequence_control_flag»))  -- 7: bypass
+    ∷ (1, commandNumber (h .«protocol_control_command_flag»))  -- 8: command
+    ∷ (2, spare)  -- 9: spare
+    ∷ (1, flag (h .«ocf_flag»))  -- 10: OCF
+    ∷ (3, h .«vc_frame_count_len»)  -- 11: width of the count
     ∷ []
 
 -- and then the count, in as many octets as the field before it says
@@ -138,37 +138,46 @@ sameButWidth a b =
     && eqb (flag (a .«ocf_flag»)) (flag (b .«ocf_flag»))
     && eqb (a .«vc_frame_count») (b .«vc_frame_count»)
 
--- of seven octets, the w bits from bit i on
-abbrev pub field : ℕ → ℕ → List ℕ → ℕ
-field i w s = bitsOf 7 i w s
-
--- the header that stands in the octets; the spare bits, 50 and 51, are not looked at
-abbrev pub headerIn : List ℕ → PrimaryHeader
-headerIn s =
+-- the header of these rows, and of this count; rows 0, 5 and 9 are not looked at
+abbrev pub headerOf : List Field → ℕ → PrimaryHeader
+headerOf rows count =
     record {
-      «spacecraft_id» = field 4 16 s;
-      «source_or_dest_field» = sourceOrDestOf (field 20 1 s);
-      «vc_id» = field 21 6 s;
-      «map_id» = field 27 4 s;
-      «frame_len_field» = field 32 16 s;
-      «sequence_control_flag» = bypassOf (field 48 1 s);
-      «protocol_control_command_flag» = commandOf (field 49 1 s);
-      «ocf_flag» = eqb (field 52 1 s) 1;
-      «vc_frame_count_len» = field 53 3 s;
-      «vc_frame_count» = word 7 (field 53 3 s) s;
+      «spacecraft_id» = valueAt 1 rows;
+      «source_or_dest_field» = sourceOrDestOf (valueAt 2 rows);
+      «vc_id» = valueAt 3 rows;
+      «map_id» = valueAt 4 rows;
+      «frame_len_field» = valueAt 6 rows;
+      «sequence_control_flag» = bypassOf (valueAt 7 rows);
+      «protocol_control_command_flag» = commandOf (valueAt 8 rows);
+      «ocf_flag» = eqb (valueAt 10 rows) 1;
+      «vc_frame_count_len» = valueAt 11 rows;
+      «vc_frame_count» = count;
     }
 
--- reading a header: 1 (4 octets), 3, 1 (7 octets), 4, 1 (count)
-unfoldable pub headerReading : List ℕ → Outcome PrimaryHeader
-headerReading s =
+-- the widths of the rows, whatever their values; and the rows that stand in the octets
+abbrev pub format : List Field
+format = fixedTable 0 (headerOf [] 0)
+
+abbrev pub rowsIn : List ℕ → List Field
+rowsIn s = unpack format s
+
+abbrev pub spareIn : List ℕ → ℕ
+spareIn s = valueAt 9 (rowsIn s)
+
+-- reading the header of these rows from octets s: 1 (4 octets), 3, 1 (7 octets), 4, 1 (count)
+abbrev pub readingOf : List Field → List ℕ → Outcome PrimaryHeader
+readingOf rows s =
     firstOf
     ((ltb (length s) 4, refused 1 (length s ∷ 4 ∷ []))
-    ∷ (eqb (bitsOf 4 31 1 s) 1, refused 3 [])
+    ∷ (eqb (valueAt 5 rows) 1, refused 3 [])
     ∷ (ltb (length s) 7, refused 1 (length s ∷ 7 ∷ []))
-    ∷ (not (eqb (field 0 4 s) 12), refused 4 (field 0 4 s ∷ []))
-    ∷ (ltb (length s) (7 + field 53 3 s), refused 1 (length s ∷ (7 + field 53 3 s) ∷ []))
+    ∷ (not (eqb (valueAt 0 rows) 12), refused 4 (valueAt 0 rows ∷ []))
+    ∷ (ltb (length s) (7 + valueAt 11 rows), refused 1 (length s ∷ (7 + valueAt 11 rows) ∷ []))
     ∷ [])
-    (done (headerIn s))
+    (done (headerOf rows (word 7 (valueAt 11 rows) s)))
+
+unfoldable pub headerReading : List ℕ → Outcome PrimaryHeader
+headerReading s = readingOf (rowsIn s) s
 
 -- writing a header over octets s: 10, 8, 2; its length and OCF flag as they are, the octets past it stay
 unfoldable pub headerWriting : PrimaryHeader → List ℕ → Written ℕ

@@ -1,14 +1,15 @@
 // The primary header of a frame: a value, whose methods take it and hand back a new one.
+use fixed::bit_of;
 use uslp_kinds::BypassSequenceControlFlag;
 use uslp_kinds::ProtocolControlCommandFlag;
 use uslp_kinds::Refusal;
 use uslp_kinds::SourceOrDestField;
-use writing::bit_of;
 use writing::count_bad;
 ghost use mathlib.Core.Path.{_≡_};
 ghost use Prim.Native.Nat.{_-_, _≤_};
 ghost use Rattle.uslp_primary_header.specs.Header.{paperHeader, lenHeader, lenFrame, headerMaking, countSetting, lengthSetting, sameButWidth};
 
+mod fixed;
 mod reading;
 mod writing;
 

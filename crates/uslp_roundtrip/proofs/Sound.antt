@@ -16,7 +16,7 @@ use Rattle.uslp_checksum.proofs.Laws.{residue}
 use Rattle.uslp_kinds.specs.Outcome.{done}
 use Rattle.uslp_kinds.specs.declared.OperationalControlField.{OperationalControlField}
 use Rattle.uslp_kinds.specs.declared.OperationalControlField.the-variants.{Absent, Present}
-use Rattle.uslp_primary_header.specs.Header.{table, lenHeader, lenFrame, field, headerReading}
+use Rattle.uslp_primary_header.specs.Header.{table, lenHeader, lenFrame, spareIn, headerReading}
 use Rattle.uslp_primary_header.specs.declared.PrimaryHeader.{PrimaryHeader}
 use Rattle.uslp_primary_header.proofs.RoundTrip as header-trip
 use Rattle.uslp_data_field_header.specs.Field.{fieldTable, lenField, fieldReading}
@@ -100,7 +100,7 @@ module _ (s : List ℕ) (fecf : Bool) (x : TransferFrame) (oct : AreOctets s) (e
 
   -- the octets before the FECF
   front : take (dataStart h f + n + cond (h .«ocf_flag») 4 0) s
-      ≡ body (field 50 2 s) h f (contentsIn x s) (x .«operational_control_field»)
+      ≡ body (spareIn s) h f (contentsIn x s) (x .«operational_control_field»)
   front =
       take-add (dataStart h f + n) (cond (h .«ocf_flag») 4 0) s
       ∙ ap₂ (λ (a b : List ℕ). a ++ b)
@@ -124,7 +124,7 @@ module _ (s : List ℕ) (fecf : Bool) (x : TransferFrame) (oct : AreOctets s) (e
     is-total = omega (arith, long, r .room);
   }
 
-  pub begins : take (lenFrame h) s ≡ layout fecf (field 50 2 s) h f (contentsIn x s) (x .«operational_control_field»)
+  pub begins : take (lenFrame h) s ≡ layout fecf (spareIn s) h f (contentsIn x s) (x .«operational_control_field»)
   begins =
       ap (λ (k : ℕ). take k s) total
       ∙ sym
@@ -133,7 +133,7 @@ module _ (s : List ℕ) (fecf : Bool) (x : TransferFrame) (oct : AreOctets s) (e
       ∙ ap (withFecf fecf) front
 
   pub laid : Laid s fecf h f (contentsIn x s) (x .«operational_control_field»)
-  laid = record { spare = field 50 2 s; spare-fits = mod-lt _ (lit< tt); well-formed = stands; begins = begins }
+  laid = record { spare = spareIn s; spare-fits = mod-lt _ (lit< tt); well-formed = stands; begins = begins }
 
   pub is-frame : x ≡ frameOf h f (contentsIn x s) (x .«operational_control_field»)
   is-frame =

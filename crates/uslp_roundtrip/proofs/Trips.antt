@@ -10,7 +10,7 @@ use Rattle.uslp_octets.specs.Octets.{AreOctets}
 use Rattle.uslp_kinds.specs.Outcome.{done, leaving}
 use Rattle.uslp_kinds.specs.declared.OperationalControlField.{OperationalControlField}
 use Rattle.uslp_kinds.specs.declared.OperationalControlField.the-variants.{Absent, Present}
-use Rattle.uslp_primary_header.specs.Header.{lenFrame, field}
+use Rattle.uslp_primary_header.specs.Header.{lenFrame, spareIn}
 use Rattle.uslp_primary_header.specs.declared.PrimaryHeader.{PrimaryHeader}
 use Rattle.uslp_data_field_header.specs.declared.TransferFrameDataFieldHeader.{TransferFrameDataFieldHeader}
 use Rattle.uslp_layout.specs.Layout.{needed, present, layout, WellFormed}
@@ -77,7 +77,7 @@ creatorOf x fecf =
       «has_fecf» = fecf;
     }
 
-module _ (s t : List ℕ) (fecf : Bool) (x : TransferFrame) (oct : AreOctets s) (e : frameReading s fecf ≡ done x) (spare : field 50 2 s ≡ 0)
+module _ (s t : List ℕ) (fecf : Bool) (x : TransferFrame) (oct : AreOctets s) (e : frameReading s fecf ≡ done x) (spare : spareIn s ≡ 0)
     (room : lenFrame (x .«primary_header») ≤ length t) where
   abbrev c : TransferFrameCreator
   c = creatorOf x fecf

@@ -2,7 +2,7 @@
 -- Assumes nothing.
 use mathlib.Core.Path.{_∙_, refl, ap, sym}
 use Rattle.uslp_kinds.specs.Outcome.{done}
-use Rattle.uslp_primary_header.proofs.Fields.{header-eq}
+use Rattle.uslp_primary_header.proofs.Rows.{header-eq}
 use Rattle.uslp_primary_header.proofs.Making.{length-long, length-done}
 use borrow.Author.Needs.{needs}
 use Rattle.uslp_primary_header.proofs.PrimaryHeader.with_frame_len.Statement.{statement}

@@ -41,8 +41,8 @@ be-u32-requires c κs = search needs
 cast-result-3 : tie.Need-cast-result-3
 cast-result-3 c = search needs
 
-read-rest-requires : tie.Need-read-rest-requires
-read-rest-requires c κs = search needs
+number-in-requires : tie.Need-number-in-requires
+number-in-requires c κs = search needs
 
 returns : tie.Need-returns
 returns c = rw (c .before .match .keys1) (omega arith)
@@ -72,7 +72,7 @@ read-count-spec =
     shared-slice-read-be-u32-4
     be-u32-requires
     cast-result-3
-    read-rest-requires
+    number-in-requires
     returns
     returns-2
     returns-3

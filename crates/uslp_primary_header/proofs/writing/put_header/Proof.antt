@@ -1,8 +1,8 @@
--- `put_header` meets its contract: seven octets, and then the count's over those that follow.
+-- `put_header` meets its contract: the seven octets of the fixed rows, and then the count's over those that follow.
 -- Assumes nothing.
 use mathlib.Core.Path.{sym}
 use native.Mathlib.Omega.{arith}
-use Rattle.uslp_primary_header.proofs.WritePaths.{writing-short, writing-put}
+use Rattle.uslp_primary_header.proofs.WritePaths.{writing-short, fixed-put, writing-put}
 use borrow.Author.Needs.{needs}
 use Rattle.uslp_primary_header.proofs.writing.put_header.Statement.{statement}
 use Rattle.uslp_primary_header.proofs.writing.put_header.Tie as tie
@@ -16,8 +16,8 @@ returns c =
     rw (c .before .len-header .ensures)
     (sym (writing-short (start .args .header) (start .args .buf .now) (start .pre) (omega (arith, c .if1 .taken, c .before .len-header .ensures))))
 
-put-fixed-requires : tie.Need-put-fixed-requires
-put-fixed-requires c κs = search needs
+fixed-of-requires : tie.Need-fixed-of-requires
+fixed-of-requires c κs = search needs
 
 sub-put-number : tie.Need-sub-put-number
 sub-put-number c = search needs
@@ -31,6 +31,18 @@ part-put-number-end c = search needs
 put-number-requires : tie.Need-put-number-requires
 put-number-requires c κs = search needs
 
+sub-put-number-2 : tie.Need-sub-put-number-2
+sub-put-number-2 c = search needs
+
+part-put-number-start-2 : tie.Need-part-put-number-start-2
+part-put-number-start-2 c = search needs
+
+part-put-number-end-2 : tie.Need-part-put-number-end-2
+part-put-number-end-2 c = search needs
+
+put-number-requires-2 : tie.Need-put-number-requires-2
+put-number-requires-2 c κs = search needs
+
 same-length : tie.Need-same-length
 same-length c = search needs
 
@@ -38,9 +50,13 @@ returns-2 : tie.Need-returns-2
 returns-2 c =
     let p = c .before .before in
     let q = p .before .before .before .before in
-    let d = q .before .before .before in
+    let f = q .before .before in
+    let d = f .before .before in
     let start = d .before .before in
-    writing-put (start .args .header) (start .args .buf .now) (start .pre) _ _ _ (d .len-header .ensures) (omega arith) (q .put-fixed .ensures) (p .put-number .ensures)
+    let h = start .args .header in
+    let s = start .args .buf .now in
+    writing-put h s (start .pre) _ _ _ (d .len-header .ensures) (omega arith)
+    (fixed-put h s (omega arith) (f .fixed-of .ensures) (q .put-number .ensures)) (p .put-number2 .ensures)
 
 pub put-header-spec : {M : Type 1} → statement M
 put-header-spec =
@@ -48,10 +64,14 @@ put-header-spec =
     (tie.spec
     len-header-requires
     returns
-    put-fixed-requires
+    fixed-of-requires
     sub-put-number
     part-put-number-start
     part-put-number-end
     put-number-requires
+    sub-put-number-2
+    part-put-number-start-2
+    part-put-number-end-2
+    put-number-requires-2
     same-length
     returns-2)
