@@ -7,7 +7,7 @@ use Prim.Native.Nat.{ℕ, _/_, _%_, _<_, _≤_}
 use native.Mathlib.Omega.{arith}
 use borrow.Author.Tests.{lt-ltb, le-ltb}
 use lib.ListN.{length, getD}
-use Rattle.uslp_octets.specs.Octets.{word, valueAt}
+use Rattle.uslp_octets.specs.Octets.{word, named}
 use Rattle.uslp_kinds.specs.Outcome.{done, refused}
 use Rattle.uslp_kinds.specs.Kinds.{rules, ruleOf, fixedLength, protocolOf}
 use Rattle.uslp_kinds.specs.declared.ConstructionRule.{ConstructionRule}
@@ -20,7 +20,7 @@ use Rattle.uslp_data_field_header.specs.Field.{firstIn, ruleIn, numberIn
 -- the first octet's high three bits and low five
 pub rule-at : (s : List ℕ) → ruleIn s ≡ ruleOf (getD s 0 0 / 32)
 rule-at s =
-    let e : valueAt 0 (firstIn s) % 8 ≡ getD s 0 0 / 32 % 8 = omega arith in
+    let e : named "construction rule" (firstIn s) % 8 ≡ getD s 0 0 / 32 % 8 = omega arith in
     ap (λ (n : ℕ). getD rules n NoSegmentation) e
 
 pub number-at : (s : List ℕ) → numberIn s ≡ getD s 0 0 % 32

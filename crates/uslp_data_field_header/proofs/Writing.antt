@@ -15,7 +15,7 @@ use Rattle.uslp_kinds.specs.Outcome.{done, refused, leaving}
 use Rattle.uslp_kinds.specs.Kinds.{ruleNumber, protocolNumber, fixedLength}
 use Rattle.uslp_kinds.proofs.Cases.{rule-lt, protocol-lt}
 use Rattle.uslp_kinds.specs.declared.FhpOrLvo.the-variants.{Absent, Present}
-use Rattle.uslp_data_field_header.specs.Field.{fieldTable, lenField, fieldChecking, fieldWriting}
+use Rattle.uslp_data_field_header.specs.Field.{firstTable, fieldTable, lenField, fieldChecking, fieldWriting}
 use Rattle.uslp_data_field_header.specs.declared.TransferFrameDataFieldHeader.{TransferFrameDataFieldHeader}
 use Rattle.uslp_data_field_header.proofs.Checks.{pointer-len, none-len, checks-refused, checks-passed}
 
@@ -55,7 +55,7 @@ module _ (f : TransferFrameDataFieldHeader) where
   pub octets-pointer : (p : ℕ) → f .«fhp_or_lvo» ≡ Present p → p < 65536 → pack (fieldTable f) ≡ firstOctet f ∷ octets 2 p
   octets-pointer p e h =
       rw e
-      (pack-append 1 2 p ((3, ruleNumber (f .«construction_rule»)) ∷ (5, protocolNumber (f .«uslp_protocol_id»)) ∷ []) refl h
+      (pack-append "pointer" 1 2 p (firstTable (f .«construction_rule») (f .«uslp_protocol_id»)) refl h
       ∙ cons-eq (omega (arith, first-lt)) refl)
 
 -- what a store to the first octet leaves, and what a number put behind it leaves

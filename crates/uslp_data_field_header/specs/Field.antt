@@ -5,7 +5,7 @@ use mathlib.Core.Bool.{Bool, not, _&&_, cond}
 use mathlib.Core.List.{List, [], _∷_, _++_}
 use lib.ListN.{length, drop}
 use lib.Dec.{ltb}
-use Rattle.uslp_octets.specs.Octets.{pack, unpack, valueAt, word}
+use Rattle.uslp_octets.specs.Octets.{pack, unpack, named, word}
 use Rattle.uslp_octets.specs.Octets as octets
 use Rattle.uslp_kinds.specs.Outcome.{Outcome, done, refused, andThen, Written, written, firstOf}
 use Rattle.uslp_kinds.specs.Kinds.{ruleNumber, ruleOf, fixedLength, protocolNumber, protocolOf}
@@ -24,13 +24,13 @@ abbrev pub paperField : DataFieldHeaderAnswer → Outcome TransferFrameDataField
 paperField (field-answer.Done f) = done f
 paperField (field-answer.Refused r) = refusal r
 
--- the fields of the first octet from the first bit on, each with its width; then two octets of pointer, or none
+-- the fields of the first octet from the first bit on, each with its bits; then two octets of pointer, or none
 abbrev pub firstTable : ConstructionRule → UslpProtocolId → List octets.Field
-firstTable rule id = (3, ruleNumber rule) ∷ (5, protocolNumber id) ∷ []
+firstTable rule id = ("construction rule", 3, ruleNumber rule) ∷ ("protocol id", 5, protocolNumber id) ∷ []
 
 abbrev pub pointerRow : FhpOrLvo → List octets.Field
 pointerRow Absent = []
-pointerRow (Present p) = (16, p) ∷ []
+pointerRow (Present p) = ("pointer", 16, p) ∷ []
 
 abbrev pub fieldTable : TransferFrameDataFieldHeader → List octets.Field
 fieldTable f = firstTable (f .«construction_rule») (f .«uslp_protocol_id») ++ pointerRow (f .«fhp_or_lvo»)
@@ -66,10 +66,10 @@ abbrev pub firstIn : List ℕ → List octets.Field
 firstIn s = unpack (firstTable NoSegmentation Idle) s
 
 abbrev pub ruleIn : List ℕ → ConstructionRule
-ruleIn s = ruleOf (valueAt 0 (firstIn s))
+ruleIn s = ruleOf (named "construction rule" (firstIn s))
 
 abbrev pub numberIn : List ℕ → ℕ
-numberIn s = valueAt 1 (firstIn s)
+numberIn s = named "protocol id" (firstIn s)
 
 abbrev pub pointerIn : List ℕ → FhpOrLvo
 pointerIn s = cond (fixedLength (ruleIn s)) (Present (word 1 2 s)) Absent

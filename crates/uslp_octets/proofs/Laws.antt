@@ -1,11 +1,11 @@
 -- Laws of numbers and rows of fields as octets, for any width, length and table.
--- Assumes nothing.
 use mathlib.Core.Path.{_≡_, refl, ap, sym, _∙_}
 use Prim.Native.Nat.{ℕ, zero, suc, _+_, _*_, _/_, _%_, _^_, _-_, _<_, _≤_}
 use mathlib.Core.List.{List, [], _∷_, _++_, append-nil}
+use Prim.Native.String.{String}
 use native.Mathlib.Omega.{arith}
 use native.Mathlib.Numerals.{add-one}
-use native.Mathlib.Nat.{mul-suc, pow-suc, mul-add-div-right, div-div-eq-div-mul, suc-add, zero-add, mul-assoc, one-le-pow, div-eq-of-lt, mul-comm, add-comm, add-mul, add-zero, add-assoc, sub-zero, le-refl, div-one, pow-zero, mod-eq-of-lt}
+use native.Mathlib.Nat.{mul-suc, pow-suc, mul-add-div-right, div-div-eq-div-mul, suc-add, zero-add, mul-assoc, one-le-pow, div-eq-of-lt, mul-comm, add-comm, add-mul, add-zero, add-assoc, sub-zero, le-refl, div-one, pow-zero, mod-eq-of-lt, pow-le-pow-right}
 use lib.Pow.{pow-add, mod-pow-add, high, low}
 use lib.Arith.{digits-lt}
 use lib.Dec.{lit<}
@@ -52,7 +52,7 @@ octets-append (suc k) w q r h =
 -- a row after a row
 bits-append : (fs gs : List Field) → bitsIn (fs ++ gs) ≡ bitsIn fs + bitsIn gs
 bits-append [] gs = sym (zero-add (bitsIn gs))
-bits-append (f ∷ fs) gs = rw (bits-append fs gs) (sym (add-assoc (f .0) (bitsIn fs) (bitsIn gs)))
+bits-append (f ∷ fs) gs = rw (bits-append fs gs) (sym (add-assoc (f .1) (bitsIn fs) (bitsIn gs)))
 
 regroup : (v b p n m : ℕ) → v * (b * p) + (n * p + m) ≡ (v * b + n) * p + m
 regroup v b p n m = simp (add-mul, mul-assoc, add-assoc)
@@ -61,44 +61,44 @@ value-append : (fs gs : List Field) → valueOf (fs ++ gs) ≡ valueOf fs * 2 ^ 
 value-append [] gs = omega arith
 value-append (f ∷ fs) gs =
     rw (bits-append fs gs, value-append fs gs, pow-add)
-    (regroup (f .1) (2 ^ bitsIn fs) (2 ^ bitsIn gs) (valueOf fs) (valueOf gs))
+    (regroup (f .2) (2 ^ bitsIn fs) (2 ^ bitsIn gs) (valueOf fs) (valueOf gs))
 
 -- a row of whole octets, and behind it a number of w octets
-pub pack-append : (k w n : ℕ) (fs : List Field) → bitsIn fs ≡ 8 * k → n < 256 ^ w
-    → pack (fs ++ (8 * w, n) ∷ []) ≡ octets k (valueOf fs) ++ octets w n
-pack-append k w n fs e h =
-    let b : bitsIn (fs ++ (8 * w, n) ∷ []) / 8 ≡ k + w = omega (arith, bits-append fs ((8 * w, n) ∷ [])) in
+pub pack-append : (name : String) (k w n : ℕ) (fs : List Field) → bitsIn fs ≡ 8 * k → n < 256 ^ w
+    → pack (fs ++ (name, 8 * w, n) ∷ []) ≡ octets k (valueOf fs) ++ octets w n
+pack-append name k w n fs e h =
+    let last : List Field = (name, 8 * w, n) ∷ [] in
+    let b : bitsIn (fs ++ last) / 8 ≡ k + w = omega (arith, bits-append fs last) in
     let p : 2 ^ (8 * w + 0) ≡ 256 ^ w = rw add-zero (pow-eight w) in
-    let v : valueOf (fs ++ (8 * w, n) ∷ []) ≡ valueOf fs * 256 ^ w + n =
-    value-append fs ((8 * w, n) ∷ []) ∙ rw p (omega arith) in
+    let v : valueOf (fs ++ last) ≡ valueOf fs * 256 ^ w + n = value-append fs last ∙ rw p (omega arith) in
     rw (b, v) (octets-append k w (valueOf fs) n h)
 
 -- splitting the number of a row that fits gives the row, whatever stands above it
 pub value-lt : (fs : List Field) → Fits fs → valueOf fs < 2 ^ bitsIn fs
 value-lt [] h = lit< tt
-value-lt (f ∷ fs) h = rw (pow-add 2 (f .0) (bitsIn fs)) (digits-lt (h .0) (value-lt fs (h .1)))
+value-lt (f ∷ fs) h = rw (pow-add 2 (f .1) (bitsIn fs)) (digits-lt (h .0) (value-lt fs (h .1)))
 
-field-eq : {w a b : ℕ} {fs gs : List Field} → a ≡ b → fs ≡ gs → (w, a) ∷ fs ≡ (w, b) ∷ gs
+field-eq : {name : String} {w a b : ℕ} {fs gs : List Field} → a ≡ b → fs ≡ gs → (name, w, a) ∷ fs ≡ (name, w, b) ∷ gs
 field-eq p q = cc
 
 split-value : (fs : List Field) (q : ℕ) → Fits fs → split fs (q * 2 ^ bitsIn fs + valueOf fs) ≡ fs
 split-value [] q h = refl
 split-value (f ∷ fs) q h =
-    let e : q * 2 ^ (f .0 + bitsIn fs) + (f .1 * 2 ^ bitsIn fs + valueOf fs) ≡ (q * 2 ^ f .0 + f .1) * 2 ^ bitsIn fs + valueOf fs =
-    rw pow-add (regroup q (2 ^ f .0) (2 ^ bitsIn fs) (f .1) (valueOf fs)) in
+    let e : q * 2 ^ (f .1 + bitsIn fs) + (f .2 * 2 ^ bitsIn fs + valueOf fs) ≡ (q * 2 ^ f .1 + f .2) * 2 ^ bitsIn fs + valueOf fs =
+    rw pow-add (regroup q (2 ^ f .1) (2 ^ bitsIn fs) (f .2) (valueOf fs)) in
     rw e
     (field-eq
-    (ap (λ (y : ℕ). y % 2 ^ f .0) (high (q * 2 ^ f .0 + f .1) (bitsIn fs) (value-lt fs (h .1))) ∙ low q (f .0) (h .0))
-    (split-value fs (q * 2 ^ f .0 + f .1) (h .1)))
+    (ap (λ (y : ℕ). y % 2 ^ f .1) (high (q * 2 ^ f .1 + f .2) (bitsIn fs) (value-lt fs (h .1))) ∙ low q (f .1) (h .0))
+    (split-value fs (q * 2 ^ f .1 + f .2) (h .1)))
 
 -- the number of the row that a number was split into
 bits-split : (fs : List Field) (n : ℕ) → bitsIn (split fs n) ≡ bitsIn fs
 bits-split [] n = refl
-bits-split (f ∷ fs) n = ap (λ (b : ℕ). f .0 + b) (bits-split fs n)
+bits-split (f ∷ fs) n = ap (λ (b : ℕ). f .1 + b) (bits-split fs n)
 
 value-split : (fs : List Field) (n : ℕ) → valueOf (split fs n) ≡ n % 2 ^ bitsIn fs
 value-split [] n = omega arith
-value-split (f ∷ fs) n = rw (bits-split fs n, value-split fs n) (sym (mod-pow-add n (f .0) (bitsIn fs)))
+value-split (f ∷ fs) n = rw (bits-split fs n, value-split fs n) (sym (mod-pow-add n (f .1) (bitsIn fs)))
 
 -- the number of w octets that stand behind p: the first k of them make its high part, all of them the number
 module _ (p t : List ℕ) (w n : ℕ) (fits : n < 256 ^ w) where
@@ -135,6 +135,10 @@ module _ (s : List ℕ) (i : ℕ) (oct : AreOctets s) where
   pub word-lt : (w : ℕ) → word i w s < 256 ^ w
   word-lt zero = lit< tt
   word-lt (suc w) = rw (pow-suc 256 w) (omega (arith, word-lt w, oct (i + w)))
+
+  -- eight octets fit a machine number
+  pub word-fits : (w : ℕ) → w ≤ 8 → word i w s % 2 ^ 64 ≡ word i w s
+  word-fits w h = mod-eq-of-lt (omega (arith, word-lt w, pow-le-pow-right {n = 256} (lit< tt) {i = w} {j = 8} h))
 
 -- a row of whole octets: packed it is unpacked to itself, and octets unpacked pack to themselves
 module _ (fs : List Field) (k : ℕ) (whole : bitsIn fs ≡ 8 * k) where

@@ -1,7 +1,10 @@
 -- Numbers and rows of bit fields as octets. The first octet and the first field are the most significant, as CCSDS documents draw them.
 use Prim.Native.Nat.{ℕ, zero, suc, _+_, _*_, _/_, _%_, _^_, _<_}
 use mathlib.Core.List.{List, [], _∷_, _++_}
+use mathlib.Core.Bool.{cond}
+use Prim.Native.String.{String}
 use lib.ListN.{length, take, drop, getD}
+use lib.Text.{eqt}
 
 -- each element is an octet
 abbrev pub AreOctets : List ℕ → Type 0
@@ -17,39 +20,40 @@ abbrev pub word : ℕ → ℕ → List ℕ → ℕ
 word i zero s = 0
 word i (suc n) s = word i n s * 256 + getD s (i + n) 0
 
--- a field: how many bits it has, and its value
+-- a field: its name, how many bits it has, and its value
 abbrev pub Field : Type 0
-Field = ℕ × ℕ
+Field = String × ℕ × ℕ
 
 -- how many bits a row of fields has, and the row as one number
 abbrev pub bitsIn : List Field → ℕ
 bitsIn [] = 0
-bitsIn (f ∷ fs) = f .0 + bitsIn fs
+bitsIn (f ∷ fs) = f .1 + bitsIn fs
 
 abbrev pub valueOf : List Field → ℕ
 valueOf [] = 0
-valueOf (f ∷ fs) = f .1 * 2 ^ bitsIn fs + valueOf fs
+valueOf (f ∷ fs) = f .2 * 2 ^ bitsIn fs + valueOf fs
 
 -- each value fits its bits
 abbrev pub Fits : List Field → Type 0
 Fits [] = Unit {0}
-Fits (f ∷ fs) = (f .1 < 2 ^ f .0) × Fits fs
+Fits (f ∷ fs) = (f .2 < 2 ^ f .1) × Fits fs
 
--- a row of the same widths, with the values that a number has there
+-- a row of the same names and bits, with the values that a number has there
 abbrev pub split : List Field → ℕ → List Field
 split [] n = []
-split (f ∷ fs) n = (f .0, n / 2 ^ bitsIn fs % 2 ^ f .0) ∷ split fs n
+split (f ∷ fs) n = (f .0, f .1, n / 2 ^ bitsIn fs % 2 ^ f .1) ∷ split fs n
 
--- the octets that a row of fields makes, and the row of the same widths that octets make; octets that are missing count as 0
+-- the octets that a row of fields makes, and the row that octets make; octets that are missing count as 0
 abbrev pub pack : List Field → List ℕ
 pack fs = octets (bitsIn fs / 8) (valueOf fs)
 
 abbrev pub unpack : List Field → List ℕ → List Field
 unpack fs s = split fs (word 0 (bitsIn fs / 8) s)
 
--- the value of field i, from 0 on
-abbrev pub valueAt : ℕ → List Field → ℕ
-valueAt i fs = getD fs i (0, 0) .1
+-- the value of the field of this name
+abbrev pub named : String → List Field → ℕ
+named name [] = 0
+named name (f ∷ fs) = cond (eqt name (f .0)) (f .2) (named name fs)
 
 -- the octets t with s laid over them from the front, as far as both reach
 abbrev pub overlaid : List ℕ → List ℕ → List ℕ

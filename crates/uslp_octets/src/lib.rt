@@ -1,6 +1,6 @@
 // Octets: copying them between slices, and numbers as octets, big-endian.
 ghost use mathlib.Core.Path.{_≡_};
-ghost use Prim.Native.Nat.{_+_, _*_, _≤_};
+ghost use Prim.Native.Nat.{_+_, _*_, _%_, _^_};
 ghost use lib.ListN.{length};
 ghost use Rattle.uslp_octets.specs.Octets.{octets, word, overlaid};
 
@@ -40,16 +40,22 @@ pub fn be_u32(a: u8, b: u8, c: u8, d: u8) -> u32
     ((a as u32 * 256 + b as u32) * 256 + c as u32) * 256 + d as u32
 }
 
-// The number that `width` octets make, at most eight, from place `at` on.
-pub fn number_in(octets: &[u8], at: usize, width: usize) -> u64
-    requires { ⌜ (width ≤ 8) × (at + width ≤ length (now octets)) ⌝ }
-    ensures { λ r. ⌜ r ≡ word at width (now (octets .entry)) ⌝ }
+// The number that octets make, of more than eight the last eight.
+pub fn number_in(octets: &[u8]) -> u64
+    ensures { λ r. ⌜ r ≡ word 0 (length (now (octets .entry))) (now (octets .entry)) % 2 ^ 64 ⌝ }
 {
     let mut number: u64 = 0;
     let mut i: usize = 0;
-    while i < width {
-        number = number * 256 + octets[at + i] as u64;
+    while i < octets.len() {
+        number = moved_in(number, octets[i]);
         i += 1;
     }
     number
+}
+
+// One octet more at the end; the eight last stay.
+fn moved_in(number: u64, octet: u8) -> u64
+    ensures { λ r. ⌜ r ≡ (number * 256 + octet) % 2 ^ 64 ⌝ }
+{
+    number % 0x0100_0000_0000_0000 * 256 + octet as u64
 }

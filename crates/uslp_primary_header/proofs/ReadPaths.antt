@@ -1,5 +1,4 @@
 -- What `headerReading` says, path by path, in the words of the code: n is the number that the first seven octets make.
--- Assumes nothing.
 use mathlib.Core.Path.{_≡_, ap, sym, _∙_}
 use Prim.Native.Nat.{ℕ, _+_, _/_, _%_, _^_, _<_, _≤_}
 use mathlib.Core.Bool.{false}
@@ -9,7 +8,7 @@ use native.Mathlib.Nat.{div-one}
 use borrow.Author.Tests.{le-ltb, lt-ltb, eq-eqb, ne-eqb}
 use lib.Dec.{eqb}
 use lib.ListN.{length, getD}
-use Rattle.uslp_octets.specs.Octets.{AreOctets, split, valueAt, word}
+use Rattle.uslp_octets.specs.Octets.{AreOctets, split, named, word}
 use Rattle.uslp_kinds.specs.Outcome.{done, refused}
 use Rattle.uslp_primary_header.specs.Header.{format, headerOf, readingOf, headerReading}
 
@@ -19,7 +18,7 @@ module _ (s : List ℕ) (oct : AreOctets s) (n : ℕ) (e : n ≡ word 0 7 s) whe
   reading-is = sym (ap (λ (k : ℕ). readingOf (split format k) s) e)
 
   -- the fourth octet alone tells it
-  truncated-at : valueAt 5 (split format n) ≡ getD s 3 0 % 2
+  truncated-at : named "truncated" (split format n) ≡ getD s 3 0 % 2
   truncated-at = omega (arith, oct 0, oct 1, oct 2, oct 3, oct 4, oct 5, oct 6)
 
   pub reading-short : length s < 4 → headerReading s ≡ refused 1 (length s ∷ 4 ∷ [])
@@ -30,7 +29,7 @@ module _ (s : List ℕ) (oct : AreOctets s) (n : ℕ) (e : n ≡ word 0 7 s) whe
     reading-truncated h = reading-is ∙ simp (le-ltb _ _ four, eq-eqb _ _ (truncated-at ∙ h))
 
     module _ (whole : getD s 3 0 % 2 ≡ 1 → ⊥) where
-      not-truncated : eqb (valueAt 5 (split format n)) 1 ≡ false
+      not-truncated : eqb (named "truncated" (split format n)) 1 ≡ false
       not-truncated = ne-eqb _ _ (λ h. whole (sym truncated-at ∙ h))
 
       pub reading-short-7 : length s < 7 → headerReading s ≡ refused 1 (length s ∷ 7 ∷ [])

@@ -1,6 +1,5 @@
 -- Reading a layout gives its header, reading and then writing gives the octets, writing and then reading gives the header.
 -- And when two headers are the same but for the count's width, and that an answer on paper loses nothing.
--- Assumes nothing.
 use mathlib.Core.Path.{_≡_, refl, ap, ap₂, sym, _∙_, subst}
 use Prim.Native.Nat.{ℕ, _+_, _/_, _<_, _≤_}
 use mathlib.Core.List.{List, [], _∷_, _++_}
@@ -13,7 +12,7 @@ use borrow.Author.Tests.{ltb-false, le-ltb, eqb-true, eqb-false, eq-eqb, not-fal
 use lib.ListN.{length, take, drop, length-append}
 use lib.Seq.{take-add}
 use lib.Dec.{lit<, ltb, eqb}
-use Rattle.uslp_octets.specs.Octets.{AreOctets, Field, bitsIn, octets, pack, word, valueAt}
+use Rattle.uslp_octets.specs.Octets.{AreOctets, Field, bitsIn, octets, pack, word, named}
 use Rattle.uslp_octets.proofs.Laws.{length-octets, octets-word, word-octets, word-lt, unpack-pack, pack-unpack}
 use Rattle.uslp_kinds.specs.Outcome.{Outcome, done, refused, leaving}
 use Rattle.uslp_kinds.specs.Kinds.{sourceOrDestNumber, sourceOrDestOf, bypassNumber, bypassOf, commandNumber, commandOf}
@@ -51,14 +50,14 @@ layout-read spare h t small f =
 abbrev tests : List Field → List ℕ → List Check
 tests rows s =
     (ltb (length s) 4, 1, length s ∷ 4 ∷ [])
-    ∷ (eqb (valueAt 5 rows) 1, 3, [])
+    ∷ (eqb (named "truncated" rows) 1, 3, [])
     ∷ (ltb (length s) 7, 1, length s ∷ 7 ∷ [])
-    ∷ (not (eqb (valueAt 0 rows) 12), 4, valueAt 0 rows ∷ [])
-    ∷ (ltb (length s) (7 + valueAt 11 rows), 1, length s ∷ (7 + valueAt 11 rows) ∷ [])
+    ∷ (not (eqb (named "version" rows) 12), 4, named "version" rows ∷ [])
+    ∷ (ltb (length s) (7 + named "count width" rows), 1, length s ∷ (7 + named "count width" rows) ∷ [])
     ∷ []
 
 abbrev headerIn : List ℕ → PrimaryHeader
-headerIn s = headerOf (rowsIn s) (word 7 (valueAt 11 (rowsIn s)) s)
+headerIn s = headerOf (rowsIn s) (word 7 (named "count width" (rowsIn s)) s)
 
 -- what was read: no test held, and the header is the one that stands in the octets
 module _ (s : List ℕ) (h : PrimaryHeader) (e : headerReading s ≡ done h) where
@@ -75,13 +74,13 @@ fitting-in s oct =
     record {
       spacecraft-fits = mod-lt _ (lit< tt);
       length-fits = mod-lt _ (lit< tt);
-      checks-pass = checks-done (headerIn s) (omega arith) (omega arith) (omega arith) (word-lt s 7 oct (valueAt 11 (rowsIn s)));
+      checks-pass = checks-done (headerIn s) (omega arith) (omega arith) (omega arith) (word-lt s 7 oct (named "count width" (rowsIn s)));
     }
 
-layout-in : (s : List ℕ) → AreOctets s → lenHeader (headerIn s) ≤ length s → valueAt 0 (rowsIn s) ≡ 12 → valueAt 5 (rowsIn s) ≡ 0
+layout-in : (s : List ℕ) → AreOctets s → lenHeader (headerIn s) ≤ length s → named "version" (rowsIn s) ≡ 12 → named "truncated" (rowsIn s) ≡ 0
     → take (lenHeader (headerIn s)) s ≡ pack (table (spareIn s) (headerIn s))
 layout-in s oct long version whole =
-    let w : ℕ = valueAt 11 (rowsIn s) in
+    let w : ℕ = named "count width" (rowsIn s) in
     take-add 7 w s
     ∙ sym
     (table-split (spareIn s) (headerIn s) (fitting-in s oct .checks-pass)
@@ -96,7 +95,7 @@ module _ (s : List ℕ) (h : PrimaryHeader) (oct : AreOctets s) (e : headerReadi
   pub read-layout : take (lenHeader h) s ≡ pack (table (spareIn s) h)
   read-layout =
       let p = read-passed s h e in
-      let whole : valueAt 5 (rowsIn s) ≡ 0 = omega (arith, eqb-false (valueAt 5 (rowsIn s)) 1 (p .0 1)) in
+      let whole : named "truncated" (rowsIn s) ≡ 0 = omega (arith, eqb-false (named "truncated" (rowsIn s)) 1 (p .0 1)) in
       subst (λ (k : PrimaryHeader). take (lenHeader k) s ≡ pack (table (spareIn s) k)) (p .1)
       (layout-in s oct (ltb-false (length s) (lenHeader (headerIn s)) (p .0 4)) (eqb-true _ _ (not-false _ (p .0 3))) whole)
 

@@ -1,5 +1,4 @@
 -- The rows of a header: those of its table fit, and make the header again; those that stand in octets make a header whose table they are.
--- Assumes nothing.
 use mathlib.Core.Path.{_≡_, refl}
 use Prim.Native.Nat.{ℕ, zero, suc, _%_, _<_}
 use mathlib.Core.Bool.{Bool, true, false}
@@ -7,7 +6,7 @@ use mathlib.Core.List.{_++_}
 use native.Mathlib.Omega.{arith}
 use native.Mathlib.Nat.{mod-lt}
 use lib.Dec.{lit<, eqb}
-use Rattle.uslp_octets.specs.Octets.{Fits, octets, pack, split, valueAt}
+use Rattle.uslp_octets.specs.Octets.{Fits, octets, pack, split, named}
 use Rattle.uslp_octets.proofs.Laws.{pack-append}
 use Rattle.uslp_kinds.specs.Outcome.{done}
 use Rattle.uslp_kinds.proofs.Cases.{source-back, source-number, source-lt, bypass-back, bypass-number, bypass-lt, command-back, command-number, command-lt}
@@ -74,16 +73,16 @@ rows-fit spare h small f =
     )
 
 -- the rows that a number holds, where they have the version and are not truncated
-pub rows-back : (n count : ℕ) → valueAt 0 (split format n) ≡ 12 → valueAt 5 (split format n) ≡ 0
-    → fixedTable (valueAt 9 (split format n)) (headerOf (split format n) count) ≡ split format n
+pub rows-back : (n count : ℕ) → named "version" (split format n) ≡ 12 → named "truncated" (split format n) ≡ 0
+    → fixedTable (named "spare" (split format n)) (headerOf (split format n) count) ≡ split format n
 rows-back n count version whole =
     let rows = split format n in
     let bit : (m : ℕ) → m % 2 < 2 = λ m. mod-lt m (lit< tt) in
     rw (
-      source-number (valueAt 2 rows) (bit _),
-      bypass-number (valueAt 7 rows) (bit _),
-      command-number (valueAt 8 rows) (bit _),
-      flag-number (valueAt 10 rows) (bit _),
+      source-number (named "source or destination" rows) (bit _),
+      bypass-number (named "bypass" rows) (bit _),
+      command-number (named "protocol command" rows) (bit _),
+      flag-number (named "OCF flag" rows) (bit _),
       version,
       whole,
     )
@@ -91,4 +90,4 @@ rows-back n count version whole =
 -- the count stands behind the seven octets
 pub table-split : (spare : ℕ) (h : PrimaryHeader) → headerChecking h ≡ done h
     → pack (table spare h) ≡ pack (fixedTable spare h) ++ octets (h .«vc_frame_count_len») (h .«vc_frame_count»)
-table-split spare h e = pack-append 7 (h .«vc_frame_count_len») (h .«vc_frame_count») (fixedTable spare h) refl (count-in h e)
+table-split spare h e = pack-append "count" 7 (h .«vc_frame_count_len») (h .«vc_frame_count») (fixedTable spare h) refl (count-in h e)

@@ -5,7 +5,7 @@ use mathlib.Core.Bool.{Bool, true, false, not, _&&_, _||_}
 use mathlib.Core.List.{List, [], _∷_, _++_}
 use lib.ListN.{length, drop}
 use lib.Dec.{ltb, leb, eqb}
-use Rattle.uslp_octets.specs.Octets.{Field, pack, unpack, valueAt, word}
+use Rattle.uslp_octets.specs.Octets.{Field, pack, unpack, named, word}
 use Rattle.uslp_kinds.specs.Outcome.{Outcome, done, refused, Written, written, firstOf}
 use Rattle.uslp_kinds.specs.Kinds.{sourceOrDestNumber, sourceOrDestOf, bypassNumber, bypassOf, commandNumber, commandOf}
 use Rattle.uslp_kinds.specs.Answers.{refusal}
@@ -24,26 +24,26 @@ abbrev pub flag : Bool → ℕ
 flag true = 1
 flag false = 0
 
--- the fields of the first seven octets, from the first bit on, each with its width; the two spare bits are a parameter
+-- the fields of the first seven octets, from the first bit on, each with its bits; the two spare bits are a parameter
 abbrev pub fixedTable : ℕ → PrimaryHeader → List Field
 fixedTable spare h =
-    (4, 12)  -- 0: version
-    ∷ (16, h .«spacecraft_id»)  -- 1: spacecraft id
-    ∷ (1, sourceOrDestNumber (h .«source_or_dest_field»))  -- 2: source or destination
-    ∷ (6, h .«vc_id»)  -- 3: virtual channel
-    ∷ (4, h .«map_id»)  -- 4: MAP
-    ∷ (1, 0)  -- 5: truncation
-    ∷ (16, h .«frame_len_field»)  -- 6: length
-    ∷ (1, bypassNumber (h .«sequence_control_flag»))  -- 7: bypass
-    ∷ (1, commandNumber (h .«protocol_control_command_flag»))  -- 8: command
-    ∷ (2, spare)  -- 9: spare
-    ∷ (1, flag (h .«ocf_flag»))  -- 10: OCF
-    ∷ (3, h .«vc_frame_count_len»)  -- 11: width of the count
+    ("version", 4, 12)
+    ∷ ("spacecraft id", 16, h .«spacecraft_id»)
+    ∷ ("source or destination", 1, sourceOrDestNumber (h .«source_or_dest_field»))
+    ∷ ("channel", 6, h .«vc_id»)
+    ∷ ("map id", 4, h .«map_id»)
+    ∷ ("truncated", 1, 0)
+    ∷ ("length less one", 16, h .«frame_len_field»)
+    ∷ ("bypass", 1, bypassNumber (h .«sequence_control_flag»))
+    ∷ ("protocol command", 1, commandNumber (h .«protocol_control_command_flag»))
+    ∷ ("spare", 2, spare)
+    ∷ ("OCF flag", 1, flag (h .«ocf_flag»))
+    ∷ ("count width", 3, h .«vc_frame_count_len»)
     ∷ []
 
 -- and then the count, in as many octets as the field before it says
 abbrev pub table : ℕ → PrimaryHeader → List Field
-table spare h = fixedTable spare h ++ (8 * h .«vc_frame_count_len», h .«vc_frame_count») ∷ []
+table spare h = fixedTable spare h ++ ("count", 8 * h .«vc_frame_count_len», h .«vc_frame_count») ∷ []
 
 abbrev pub lenHeader : PrimaryHeader → ℕ
 lenHeader h = 7 + h .«vc_frame_count_len»
@@ -138,23 +138,23 @@ sameButWidth a b =
     && eqb (flag (a .«ocf_flag»)) (flag (b .«ocf_flag»))
     && eqb (a .«vc_frame_count») (b .«vc_frame_count»)
 
--- the header of these rows, and of this count; rows 0, 5 and 9 are not looked at
+-- the header of these fields and this count; the spare bits are not looked at
 abbrev pub headerOf : List Field → ℕ → PrimaryHeader
 headerOf rows count =
     record {
-      «spacecraft_id» = valueAt 1 rows;
-      «source_or_dest_field» = sourceOrDestOf (valueAt 2 rows);
-      «vc_id» = valueAt 3 rows;
-      «map_id» = valueAt 4 rows;
-      «frame_len_field» = valueAt 6 rows;
-      «sequence_control_flag» = bypassOf (valueAt 7 rows);
-      «protocol_control_command_flag» = commandOf (valueAt 8 rows);
-      «ocf_flag» = eqb (valueAt 10 rows) 1;
-      «vc_frame_count_len» = valueAt 11 rows;
+      «spacecraft_id» = named "spacecraft id" rows;
+      «source_or_dest_field» = sourceOrDestOf (named "source or destination" rows);
+      «vc_id» = named "channel" rows;
+      «map_id» = named "map id" rows;
+      «frame_len_field» = named "length less one" rows;
+      «sequence_control_flag» = bypassOf (named "bypass" rows);
+      «protocol_control_command_flag» = commandOf (named "protocol command" rows);
+      «ocf_flag» = eqb (named "OCF flag" rows) 1;
+      «vc_frame_count_len» = named "count width" rows;
       «vc_frame_count» = count;
     }
 
--- the widths of the rows, whatever their values; and the rows that stand in the octets
+-- the names and bits of the fields, whatever their values; and the fields that stand in the octets
 abbrev pub format : List Field
 format = fixedTable 0 (headerOf [] 0)
 
@@ -162,19 +162,19 @@ abbrev pub rowsIn : List ℕ → List Field
 rowsIn s = unpack format s
 
 abbrev pub spareIn : List ℕ → ℕ
-spareIn s = valueAt 9 (rowsIn s)
+spareIn s = named "spare" (rowsIn s)
 
--- reading the header of these rows from octets s: 1 (4 octets), 3, 1 (7 octets), 4, 1 (count)
+-- reading the header of these fields from octets s: 1 (4 octets), 3, 1 (7 octets), 4, 1 (count)
 abbrev pub readingOf : List Field → List ℕ → Outcome PrimaryHeader
 readingOf rows s =
     firstOf
     ((ltb (length s) 4, refused 1 (length s ∷ 4 ∷ []))
-    ∷ (eqb (valueAt 5 rows) 1, refused 3 [])
+    ∷ (eqb (named "truncated" rows) 1, refused 3 [])
     ∷ (ltb (length s) 7, refused 1 (length s ∷ 7 ∷ []))
-    ∷ (not (eqb (valueAt 0 rows) 12), refused 4 (valueAt 0 rows ∷ []))
-    ∷ (ltb (length s) (7 + valueAt 11 rows), refused 1 (length s ∷ (7 + valueAt 11 rows) ∷ []))
+    ∷ (not (eqb (named "version" rows) 12), refused 4 (named "version" rows ∷ []))
+    ∷ (ltb (length s) (7 + named "count width" rows), refused 1 (length s ∷ (7 + named "count width" rows) ∷ []))
     ∷ [])
-    (done (headerOf rows (word 7 (valueAt 11 rows) s)))
+    (done (headerOf rows (word 7 (named "count width" rows) s)))
 
 unfoldable pub headerReading : List ℕ → Outcome PrimaryHeader
 headerReading s = readingOf (rowsIn s) s

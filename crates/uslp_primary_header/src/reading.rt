@@ -28,7 +28,7 @@ impl PrimaryHeader {
         if found < 7 {
             return HeaderAnswer::Refused(Refusal::ShortSource { found, expected: 7 });
         }
-        let fixed = number_in(buf, 0, 7);
+        let fixed = number_in(&buf[0..7]);
         let version = (fixed / VERSION % 16) as u8;
         if version != USLP_VERSION_NUMBER {
             return HeaderAnswer::Refused(Refusal::BadVersion(version));
@@ -51,6 +51,6 @@ fn read_count(octets: &[u8]) -> u64
         1 => octets[0] as u64,
         2 => be_u16(octets[0], octets[1]) as u64,
         4 => be_u32(octets[0], octets[1], octets[2], octets[3]) as u64,
-        _ => number_in(octets, 0, width),
+        _ => number_in(octets),
     }
 }
