@@ -1,11 +1,11 @@
 // What an answer line says: refusals, the fields of headers, and what did not fit.
 use uslp_arguments::Trouble;
 use uslp_data_field_header::TransferFrameDataFieldHeader;
-use uslp_primary_header::PrimaryHeader;
 use uslp_kinds::FhpOrLvo;
 use uslp_kinds::LengthAnswer;
 use uslp_kinds::OperationalControlField;
 use uslp_kinds::Refusal;
+use uslp_primary_header::PrimaryHeader;
 use uslp_text::put_number;
 use uslp_text::put_text;
 use uslp_words::next_word;

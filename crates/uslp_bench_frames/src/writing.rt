@@ -1,13 +1,13 @@
 // The commands that write into a buffer, which holds 0xEE everywhere before: hw, fw, rw.
 use uslp_answers::put_written;
+use uslp_kinds::LengthAnswer;
+use uslp_octets::copy_octets;
+use uslp_primary_header::HeaderAnswer;
+use uslp_primary_header::PrimaryHeader;
+use uslp_words::fill;
 use uslp_writer::ReservedAnswer;
 use uslp_writer::TransferFrameCreator;
 use uslp_writer::TransferFrameCreatorWithReservedData;
-use uslp_primary_header::HeaderAnswer;
-use uslp_primary_header::PrimaryHeader;
-use uslp_kinds::LengthAnswer;
-use uslp_octets::copy_octets;
-use uslp_words::fill;
 ghost use mathlib.Core.Path.{_≡_};
 ghost use lib.ListN.{length};
 ghost use Rattle.uslp_kinds.specs.Outcome.{leaving};

@@ -1,12 +1,12 @@
 -- An answer on paper loses nothing: it has a way back, so two answers that say the same on paper are one.
--- Assumes nothing.
 use mathlib.Core.Path.{_≡_, refl, ap, sym, _∙_}
 use Prim.Native.Nat.{ℕ}
 use mathlib.Core.List.{List, [], _∷_}
-use lib.ListN.{getD}
+use mathlib.Core.Bool.{cond}
+use lib.Dec.{eqb}
 use Rattle.uslp_kinds.specs.Outcome.{Outcome, done, refused, leaving}
 use Rattle.uslp_kinds.specs.Kinds.{ruleOf}
-use Rattle.uslp_kinds.specs.Answers.{sheet, refusal, paperLength, paperProtocol}
+use Rattle.uslp_kinds.specs.Answers.{refusalNumber, carried, refusal, paperLength, paperProtocol}
 use Rattle.uslp_kinds.proofs.Cases.{rule-back}
 use Rattle.uslp_kinds.specs.declared.Refusal.{Refusal}
 use Rattle.uslp_kinds.specs.declared.Refusal.the-variants.{ShortSource, ShortTarget, Truncated, BadVersion, BadProtocol, BadChecksum, FrameTooShort, BadCount, BadPointer, BadField, OcfMissing, TooLong, NotOpen, OtherWidth, AlreadyOpen, TableFull, TotalFull}
@@ -15,16 +15,28 @@ use Rattle.uslp_kinds.specs.declared.LengthAnswer.the-variants as length
 use Rattle.uslp_kinds.specs.declared.ProtocolIdAnswer.{ProtocolIdAnswer}
 use Rattle.uslp_kinds.specs.declared.ProtocolIdAnswer.the-variants as protocol-answer
 
--- the refusals by number, with a and b for what they carry; there is no number 0
-abbrev listed : ℕ → ℕ → List Refusal
-listed a b =
-    Truncated ∷ ShortSource a b ∷ ShortTarget a b ∷ Truncated ∷ BadVersion a ∷ BadProtocol a ∷ BadChecksum a ∷ FrameTooShort a b ∷ BadCount a b
-    ∷ BadPointer (ruleOf a) ∷ BadField ∷ OcfMissing ∷ TooLong ∷ NotOpen ∷ OtherWidth a b ∷ AlreadyOpen ∷ TableFull ∷ TotalFull ∷ []
+-- the refusals by number, those that carry nothing, one value and two
+abbrev bare : List (ℕ × Refusal)
+bare =
+    (3, Truncated) ∷ (10, BadField) ∷ (11, OcfMissing) ∷ (12, TooLong) ∷ (13, NotOpen) ∷ (15, AlreadyOpen) ∷ (16, TableFull) ∷ (17, TotalFull) ∷ []
 
+abbrev single : ℕ → List (ℕ × Refusal)
+single a = (4, BadVersion a) ∷ (5, BadProtocol a) ∷ (6, BadChecksum a) ∷ (9, BadPointer (ruleOf a)) ∷ []
+
+abbrev double : ℕ → ℕ → List (ℕ × Refusal)
+double a b = (1, ShortSource a b) ∷ (2, ShortTarget a b) ∷ (7, FrameTooShort a b) ∷ (8, BadCount a b) ∷ (14, OtherWidth a b) ∷ []
+
+abbrev numbered : ℕ → List (ℕ × Refusal) → Refusal
+numbered k [] = Truncated
+numbered k (row ∷ rows) = cond (eqb k (row .0)) (row .1) (numbered k rows)
+
+-- the refusal of this number that carries these values
 abbrev pub refusalOf : ℕ → List ℕ → Refusal
-refusalOf k vs = getD (listed (getD vs 0 0) (getD vs 1 0)) k Truncated
+refusalOf k [] = numbered k bare
+refusalOf k (a ∷ []) = numbered k (single a)
+refusalOf k (a ∷ b ∷ vs) = numbered k (double a b)
 
-pub refusal-back : (r : Refusal) → refusalOf (sheet r .0) (sheet r .1) ≡ r
+pub refusal-back : (r : Refusal) → refusalOf (refusalNumber r) (carried r) ≡ r
 refusal-back (ShortSource a b) = refl
 refusal-back (ShortTarget a b) = refl
 refusal-back Truncated = refl

@@ -11,29 +11,48 @@ use Rattle.uslp_kinds.specs.declared.LengthAnswer.the-variants as length
 use Rattle.uslp_kinds.specs.declared.ProtocolIdAnswer.{ProtocolIdAnswer}
 use Rattle.uslp_kinds.specs.declared.ProtocolIdAnswer.the-variants as protocol-answer
 
--- number, and what the refusal carries
-abbrev pub sheet : Refusal → ℕ × List ℕ
-sheet (ShortSource found expected) = (1, found ∷ expected ∷ [])
-sheet (ShortTarget found expected) = (2, found ∷ expected ∷ [])
-sheet Truncated = (3, [])
-sheet (BadVersion version) = (4, version ∷ [])
-sheet (BadProtocol id) = (5, id ∷ [])
-sheet (BadChecksum stored) = (6, stored ∷ [])
-sheet (FrameTooShort length needed) = (7, length ∷ needed ∷ [])
-sheet (BadCount count width) = (8, count ∷ width ∷ [])
-sheet (BadPointer rule) = (9, ruleNumber rule ∷ [])
-sheet BadField = (10, [])
-sheet OcfMissing = (11, [])
-sheet TooLong = (12, [])
-sheet NotOpen = (13, [])
-sheet (OtherWidth frame opened) = (14, frame ∷ opened ∷ [])
-sheet AlreadyOpen = (15, [])
-sheet TableFull = (16, [])
-sheet TotalFull = (17, [])
+-- a refusal's number, and what it carries
+abbrev pub refusalNumber : Refusal → ℕ
+refusalNumber (ShortSource found expected) = 1
+refusalNumber (ShortTarget found expected) = 2
+refusalNumber Truncated = 3
+refusalNumber (BadVersion version) = 4
+refusalNumber (BadProtocol id) = 5
+refusalNumber (BadChecksum stored) = 6
+refusalNumber (FrameTooShort length needed) = 7
+refusalNumber (BadCount count width) = 8
+refusalNumber (BadPointer rule) = 9
+refusalNumber BadField = 10
+refusalNumber OcfMissing = 11
+refusalNumber TooLong = 12
+refusalNumber NotOpen = 13
+refusalNumber (OtherWidth frame opened) = 14
+refusalNumber AlreadyOpen = 15
+refusalNumber TableFull = 16
+refusalNumber TotalFull = 17
+
+abbrev pub carried : Refusal → List ℕ
+carried (ShortSource found expected) = found ∷ expected ∷ []
+carried (ShortTarget found expected) = found ∷ expected ∷ []
+carried Truncated = []
+carried (BadVersion version) = version ∷ []
+carried (BadProtocol id) = id ∷ []
+carried (BadChecksum stored) = stored ∷ []
+carried (FrameTooShort length needed) = length ∷ needed ∷ []
+carried (BadCount count width) = count ∷ width ∷ []
+carried (BadPointer rule) = ruleNumber rule ∷ []
+carried BadField = []
+carried OcfMissing = []
+carried TooLong = []
+carried NotOpen = []
+carried (OtherWidth frame opened) = frame ∷ opened ∷ []
+carried AlreadyOpen = []
+carried TableFull = []
+carried TotalFull = []
 
 -- a refusal as the outcome of a call for any result
 abbrev pub refusal : {A : Type 0} → Refusal → Outcome A
-refusal r = refused (sheet r .0) (sheet r .1)
+refusal r = refused (refusalNumber r) (carried r)
 
 abbrev pub paperLength : LengthAnswer → Outcome ℕ
 paperLength (length-answer.Done n) = done n

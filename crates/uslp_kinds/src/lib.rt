@@ -1,7 +1,7 @@
 // The refusals of the library, the kinds of field that a frame carries, and the answers on numbers and ids.
 ghost use mathlib.Core.Path.{_≡_};
 ghost use Rattle.uslp_kinds.specs.Kinds.{sourceOrDestNumber, sourceOrDestOf, bypassNumber, bypassOf, commandNumber, commandOf, ruleNumber, ruleOf, fixedLength, protocolNumber, protocolOf};
-ghost use Rattle.uslp_kinds.specs.Answers.{sheet, paperProtocol};
+ghost use Rattle.uslp_kinds.specs.Answers.{refusalNumber, paperProtocol};
 
 // Whether the spacecraft id names the source or the destination of the frame.
 pub enum SourceOrDestField {
@@ -89,7 +89,7 @@ pub enum ProtocolIdAnswer {
 impl Refusal {
     // The number of the row in the table of refusals.
     pub fn number(self) -> u8
-        ensures { λ r. ⌜ r ≡ sheet self .0 ⌝ }
+        ensures { λ r. ⌜ r ≡ refusalNumber self ⌝ }
     {
         match self {
             Refusal::ShortSource {
@@ -226,16 +226,7 @@ impl ConstructionRule {
     pub fn applicable_to_fixed_len_tfdz(self) -> bool
         ensures { λ r. ⌜ r ≡ fixedLength self ⌝ }
     {
-        match self {
-            ConstructionRule::PacketSpanningMultipleFrames => true,
-            ConstructionRule::StartOfMapaSduOrVcaSdu => true,
-            ConstructionRule::ContinuingPortionOfMapaSdu => true,
-            ConstructionRule::OctetStream => false,
-            ConstructionRule::StartingSegment => false,
-            ConstructionRule::ContinuingSegment => false,
-            ConstructionRule::LastSegment => false,
-            ConstructionRule::NoSegmentation => false,
-        }
+        self.number() < 3
     }
 }
 

@@ -1,7 +1,7 @@
 // Setters over a header lent for writing: thin, each stores what a covered function on the header by value decided.
+use uslp_kinds::Refusal;
 use uslp_primary_header::HeaderAnswer;
 use uslp_primary_header::PrimaryHeader;
-use uslp_kinds::Refusal;
 ghost use mathlib.Core.Path.{_≡_};
 ghost use Rattle.uslp_primary_header.specs.Header.{paperHeader, countSetting, lengthSetting};
 ghost use Rattle.uslp_lent_header.specs.Setting.{headerLeft, headerOff, paperSet};

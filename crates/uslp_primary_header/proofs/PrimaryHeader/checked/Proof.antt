@@ -16,9 +16,6 @@ returns-2 c = sym (checks-map _ (c .before .before .if1 .left) (c .if2 .taken))
 returns-3 : tie.Need-returns-3
 returns-3 c = sym (checks-width _ (c .before .before .before .if1 .left) (c .before .if2 .left) (c .if3 .taken))
 
-count-bad-requires : tie.Need-count-bad-requires
-count-bad-requires c κs = search needs
-
 returns-4 : tie.Need-returns-4
 returns-4 c =
     let e = c .before .before in
@@ -31,4 +28,4 @@ returns-5 c =
 
 pub checked-spec : {M : Type 1} → statement M
 checked-spec =
-    tie.close (tie.spec returns returns-2 returns-3 count-bad-requires returns-4 returns-5)
+    tie.close (tie.spec returns returns-2 returns-3 (λ c κs. search needs) returns-4 returns-5)

@@ -33,30 +33,6 @@ same-numbers : (a b : PrimaryHeader) {r r′ p p′ k k′ o o′ : ℕ}
     ≡ sameButWidth a b
 same-numbers a b e₀ e₁ e₂ e₃ e₄ e₅ e₆ e₇ = rw (e₀, e₁, e₂, e₃, e₄, e₅, e₆, e₇)
 
-number-requires : tie.Need-number-requires
-number-requires c κs = search needs
-
-number-requires-2 : tie.Need-number-requires-2
-number-requires-2 c κs = search needs
-
-number-requires-3 : tie.Need-number-requires-3
-number-requires-3 c κs = search needs
-
-number-requires-4 : tie.Need-number-requires-4
-number-requires-4 c κs = search needs
-
-number-requires-5 : tie.Need-number-requires-5
-number-requires-5 c κs = search needs
-
-number-requires-6 : tie.Need-number-requires-6
-number-requires-6 c κs = search needs
-
-bit-of-requires : tie.Need-bit-of-requires
-bit-of-requires c κs = search needs
-
-bit-of-requires-2 : tie.Need-bit-of-requires-2
-bit-of-requires-2 c κs = search needs
-
 returns : tie.Need-returns
 returns c =
     let d = c .before .before in
@@ -71,12 +47,12 @@ pub equals-spec : {M : Type 1} → statement M
 equals-spec =
     tie.close
     (tie.spec
-    number-requires
-    number-requires-2
-    number-requires-3
-    number-requires-4
-    number-requires-5
-    number-requires-6
-    bit-of-requires
-    bit-of-requires-2
+    (λ c κs. search needs)
+    (λ c κs. search needs)
+    (λ c κs. search needs)
+    (λ c κs. search needs)
+    (λ c κs. search needs)
+    (λ c κs. search needs)
+    (λ c κs. search needs)
+    (λ c κs. search needs)
     returns)

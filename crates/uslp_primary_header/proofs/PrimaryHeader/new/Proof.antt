@@ -12,11 +12,8 @@ returns c = sym (making-channel _ _ _ _ _ (c .if1 .taken))
 returns-2 : tie.Need-returns-2
 returns-2 c = sym (making-map _ _ _ _ _ (c .before .if1 .left) (c .if2 .taken))
 
-less-one-requires : tie.Need-less-one-requires
-less-one-requires c κs = search needs
-
 returns-3 : tie.Need-returns-3
 returns-3 c = making-done _ _ _ _ _ (c .before .before .if1 .left) (c .before .if2 .left) (c .less-one .ensures)
 
 pub new-spec : {M : Type 1} → statement M
-new-spec = tie.close (tie.spec returns returns-2 less-one-requires returns-3)
+new-spec = tie.close (tie.spec returns returns-2 (λ c κs. search needs) returns-3)

@@ -10,9 +10,6 @@ use Rattle.uslp_primary_header.proofs.PrimaryHeader.set_vc_frame_count.
 returns : tie.Need-returns
 returns c = sym (setting-width _ _ _ (c .if1 .taken))
 
-count-bad-requires : tie.Need-count-bad-requires
-count-bad-requires c κs = search needs
-
 returns-2 : tie.Need-returns-2
 returns-2 c = sym (setting-count _ _ _ (c .before .before .if1 .left) (leb-true _ _ (sym (c .before .count-bad .ensures) ∙ c .if2 .taken)))
 
@@ -20,4 +17,4 @@ returns-3 : tie.Need-returns-3
 returns-3 c = sym (setting-done _ _ _ (c .before .before .if1 .left) (leb-false _ _ (sym (c .before .count-bad .ensures) ∙ c .if2 .left)))
 
 pub set-vc-frame-count-spec : {M : Type 1} → statement M
-set-vc-frame-count-spec = tie.close (tie.spec returns count-bad-requires returns-2 returns-3)
+set-vc-frame-count-spec = tie.close (tie.spec returns (λ c κs. search needs) returns-2 returns-3)

@@ -11,13 +11,10 @@ use Rattle.uslp_primary_header.proofs.PrimaryHeader.with_frame_len.Tie 
 returns : tie.Need-returns
 returns c = sym (length-long _ _ (c .if1 .taken))
 
-length-field-requires : tie.Need-length-field-requires
-length-field-requires c κs = search needs
-
 returns-2 : tie.Need-returns-2
 returns-2 c =
     ap done (header-eq refl refl refl refl (c .length-field .ensures) refl refl refl refl refl)
     ∙ sym (length-done (c .before .before .args .self) (c .before .before .args .frame-len) (c .before .if1 .left))
 
 pub with-frame-len-spec : {M : Type 1} → statement M
-with-frame-len-spec = tie.close (tie.spec returns length-field-requires returns-2)
+with-frame-len-spec = tie.close (tie.spec returns (λ c κs. search needs) returns-2)

@@ -11,12 +11,6 @@ use borrow.Author.Needs.{needs}
 use Rattle.uslp_primary_header.proofs.PrimaryHeader.write_to_slice.Statement.{statement}
 use Rattle.uslp_primary_header.proofs.PrimaryHeader.write_to_slice.Tie as tie
 
-checked-requires : tie.Need-checked-requires
-checked-requires c κs = search needs
-
-enum-known-header : tie.Need-enum-known-header
-enum-known-header c = search needs
-
 -- an answer that passed names the header that was checked
 passed : (d : tie.After-checked) {h : PrimaryHeader} → d .checked .result ≡ Done h → headerChecking (d .before .before .args .self) ≡ done h
 passed d e = sym (d .checked .ensures) ∙ ap paperHeader e
@@ -26,12 +20,6 @@ put-header-requires c κs =
     let d = c .before .before .before .before in
     let e = passed d (c .before .before .header .given .1) in
     ap headerChecking (sym (checks-same _ _ e)) ∙ e
-
-enum-known-refusal : tie.Need-enum-known-refusal
-enum-known-refusal c = search needs
-
-same-length : tie.Need-same-length
-same-length c = search needs
 
 returns : tie.Need-returns
 returns c =
@@ -48,10 +36,10 @@ pub write-to-slice-spec : {M : Type 1} → statement M
 write-to-slice-spec =
     tie.close
     (tie.spec
-    checked-requires
-    enum-known-header
+    (λ c κs. search needs)
+    (λ c. search needs)
     put-header-requires
-    enum-known-refusal
-    same-length
+    (λ c. search needs)
+    (λ c. search needs)
     returns
     returns-2)

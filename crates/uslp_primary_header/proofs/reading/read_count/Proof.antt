@@ -7,44 +7,8 @@ use borrow.Author.Needs.{needs}
 use Rattle.uslp_primary_header.proofs.reading.read_count.Statement.{statement}
 use Rattle.uslp_primary_header.proofs.reading.read_count.Tie as tie
 
-shared-slice-read-result : tie.Need-shared-slice-read-result
-shared-slice-read-result c = search needs
-
 cast-result : tie.Need-cast-result
 cast-result c = omega (arith, c .shared-slice-known2 .given 0)
-
-shared-slice-read-be-u16 : tie.Need-shared-slice-read-be-u16
-shared-slice-read-be-u16 c = search needs
-
-shared-slice-read-be-u16-2 : tie.Need-shared-slice-read-be-u16-2
-shared-slice-read-be-u16-2 c = search needs
-
-be-u16-requires : tie.Need-be-u16-requires
-be-u16-requires c κs = search needs
-
-cast-result-2 : tie.Need-cast-result-2
-cast-result-2 c = search needs
-
-shared-slice-read-be-u32 : tie.Need-shared-slice-read-be-u32
-shared-slice-read-be-u32 c = search needs
-
-shared-slice-read-be-u32-2 : tie.Need-shared-slice-read-be-u32-2
-shared-slice-read-be-u32-2 c = search needs
-
-shared-slice-read-be-u32-3 : tie.Need-shared-slice-read-be-u32-3
-shared-slice-read-be-u32-3 c = search needs
-
-shared-slice-read-be-u32-4 : tie.Need-shared-slice-read-be-u32-4
-shared-slice-read-be-u32-4 c = search needs
-
-be-u32-requires : tie.Need-be-u32-requires
-be-u32-requires c κs = search needs
-
-cast-result-3 : tie.Need-cast-result-3
-cast-result-3 c = search needs
-
-number-in-requires : tie.Need-number-in-requires
-number-in-requires c κs = search needs
 
 returns : tie.Need-returns
 returns c = rw (c .before .match .keys1) (omega arith)
@@ -65,19 +29,19 @@ pub read-count-spec : {M : Type 1} → statement M
 read-count-spec =
     tie.close
     (tie.spec
-    shared-slice-read-result
+    (λ c. search needs)
     cast-result
-    shared-slice-read-be-u16
-    shared-slice-read-be-u16-2
-    be-u16-requires
-    cast-result-2
-    shared-slice-read-be-u32
-    shared-slice-read-be-u32-2
-    shared-slice-read-be-u32-3
-    shared-slice-read-be-u32-4
-    be-u32-requires
-    cast-result-3
-    number-in-requires
+    (λ c. search needs)
+    (λ c. search needs)
+    (λ c κs. search needs)
+    (λ c. search needs)
+    (λ c. search needs)
+    (λ c. search needs)
+    (λ c. search needs)
+    (λ c. search needs)
+    (λ c κs. search needs)
+    (λ c. search needs)
+    (λ c κs. search needs)
     returns
     returns-2
     returns-3

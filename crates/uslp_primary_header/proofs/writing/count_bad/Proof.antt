@@ -28,17 +28,8 @@ wide w n a b = omega (arith, pow-le-pow-right {n = 256} (lit< tt) {i = 8} {j = w
 returns : tie.Need-returns
 returns c = sym (lt-leb _ _ (wide (c .before .args .width) (c .before .args .count) (omega arith) (omega arith)))
 
-mul-result : tie.Need-mul-result
-mul-result c = search needs
-
-cast-result : tie.Need-cast-result
-cast-result c = search needs
-
-shr-result : tie.Need-shr-result
-shr-result c = search needs
-
 returns-2 : tie.Need-returns-2
 returns-2 c = rw (pow-eight (c .before .args .width)) (high-some (c .before .args .count) _ (pos (c .before .args .width)))
 
 pub count-bad-spec : {M : Type 1} → statement M
-count-bad-spec = tie.close (tie.spec returns mul-result cast-result shr-result returns-2)
+count-bad-spec = tie.close (tie.spec returns (λ c. search needs) (λ c. search needs) (λ c. search needs) returns-2)

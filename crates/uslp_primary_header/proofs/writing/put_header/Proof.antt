@@ -7,44 +7,11 @@ use borrow.Author.Needs.{needs}
 use Rattle.uslp_primary_header.proofs.writing.put_header.Statement.{statement}
 use Rattle.uslp_primary_header.proofs.writing.put_header.Tie as tie
 
-len-header-requires : tie.Need-len-header-requires
-len-header-requires c κs = search needs
-
 returns : tie.Need-returns
 returns c =
     let start = c .before .before .before in
     rw (c .before .len-header .ensures)
     (sym (writing-short (start .args .header) (start .args .buf .now) (start .pre) (omega (arith, c .if1 .taken, c .before .len-header .ensures))))
-
-fixed-of-requires : tie.Need-fixed-of-requires
-fixed-of-requires c κs = search needs
-
-sub-put-number : tie.Need-sub-put-number
-sub-put-number c = search needs
-
-part-put-number-start : tie.Need-part-put-number-start
-part-put-number-start c = search needs
-
-part-put-number-end : tie.Need-part-put-number-end
-part-put-number-end c = search needs
-
-put-number-requires : tie.Need-put-number-requires
-put-number-requires c κs = search needs
-
-sub-put-number-2 : tie.Need-sub-put-number-2
-sub-put-number-2 c = search needs
-
-part-put-number-start-2 : tie.Need-part-put-number-start-2
-part-put-number-start-2 c = search needs
-
-part-put-number-end-2 : tie.Need-part-put-number-end-2
-part-put-number-end-2 c = search needs
-
-put-number-requires-2 : tie.Need-put-number-requires-2
-put-number-requires-2 c κs = search needs
-
-same-length : tie.Need-same-length
-same-length c = search needs
 
 returns-2 : tie.Need-returns-2
 returns-2 c =
@@ -62,16 +29,16 @@ pub put-header-spec : {M : Type 1} → statement M
 put-header-spec =
     tie.close
     (tie.spec
-    len-header-requires
+    (λ c κs. search needs)
     returns
-    fixed-of-requires
-    sub-put-number
-    part-put-number-start
-    part-put-number-end
-    put-number-requires
-    sub-put-number-2
-    part-put-number-start-2
-    part-put-number-end-2
-    put-number-requires-2
-    same-length
+    (λ c κs. search needs)
+    (λ c. search needs)
+    (λ c. search needs)
+    (λ c. search needs)
+    (λ c κs. search needs)
+    (λ c. search needs)
+    (λ c. search needs)
+    (λ c. search needs)
+    (λ c κs. search needs)
+    (λ c. search needs)
     returns-2)
