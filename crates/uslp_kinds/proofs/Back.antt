@@ -6,10 +6,12 @@ use mathlib.Core.Bool.{cond}
 use lib.Dec.{eqb}
 use Rattle.uslp_kinds.specs.Outcome.{Outcome, done, refused, leaving}
 use Rattle.uslp_kinds.specs.Kinds.{ruleOf}
-use Rattle.uslp_kinds.specs.Answers.{refusalNumber, carried, refusal, paperLength, paperProtocol}
+use Rattle.uslp_kinds.specs.Answers.{refusalNumber, carried, paperDone, paperLength, paperProtocol}
 use Rattle.uslp_kinds.proofs.Cases.{rule-back}
 use Rattle.uslp_kinds.specs.declared.Refusal.{Refusal}
 use Rattle.uslp_kinds.specs.declared.Refusal.the-variants.{ShortSource, ShortTarget, Truncated, BadVersion, BadProtocol, BadChecksum, FrameTooShort, BadCount, BadPointer, BadField, OcfMissing, TooLong, NotOpen, OtherWidth, AlreadyOpen, TableFull, TotalFull}
+use Rattle.uslp_kinds.specs.declared.DoneAnswer.{DoneAnswer}
+use Rattle.uslp_kinds.specs.declared.DoneAnswer.the-variants as done-answer
 use Rattle.uslp_kinds.specs.declared.LengthAnswer.{LengthAnswer}
 use Rattle.uslp_kinds.specs.declared.LengthAnswer.the-variants as length-answer
 use Rattle.uslp_kinds.specs.declared.ProtocolIdAnswer.{ProtocolIdAnswer}
@@ -63,6 +65,10 @@ back D R (refused k vs) = R (refusalOf k vs)
 -- a function that has a way back is one-to-one
 pub one-to-one : {A B : Type 0} (out : A → B) (way : B → A) → ((x : A) → way (out x) ≡ x) → {x y : A} → out x ≡ out y → x ≡ y
 one-to-one out way same {x} {y} e = sym (same x) ∙ ap way e ∙ same y
+
+pub done-back : (r : DoneAnswer) → back (λ (u : Unit {0}). done-answer.Done) done-answer.Refused (paperDone r) ≡ r
+done-back done-answer.Done = refl
+done-back (done-answer.Refused r) = ap done-answer.Refused (refusal-back r)
 
 pub length-back : (r : LengthAnswer) → back length-answer.Done length-answer.Refused (paperLength r) ≡ r
 length-back (length-answer.Done n) = refl
