@@ -123,7 +123,7 @@ fn octet(value: u8) {
 }
 
 fn count(what: &[u8], value: u64) {
-    match header().set_vc_frame_count(7, value) {
+    match header().with_vc_frame_count(7, value) {
         HeaderAnswer::Done(_) => {
             say(what, 0);
         }
