@@ -1,4 +1,4 @@
--- What each way through hearing a frame leaves is what the rule says. Assumes nothing.
+-- What each way through hearing a frame leaves is what the rule says.
 use mathlib.Core.Path.{_≡_, refl, sym, _∙_, ap}
 use mathlib.Core.Bool.{Bool, true, false}
 use mathlib.Core.List.{[], _∷_}
@@ -6,9 +6,8 @@ use Prim.Native.Nat.{ℕ, _<_, _≤_}
 use borrow.Author.Tests.{lt-ltb, le-ltb, le-leb, lt-leb, eq-eqb, ne-eqb}
 use Rattle.uslp_kinds.specs.Outcome.{done, refused}
 use Rattle.uslp_record.proofs.Count.{full-after}
-use Rattle.uslp_record.specs.Slots.{find, stateAt, put}
-use Rattle.uslp_record.specs.Record.{keeping}
-use Rattle.uslp_record.specs.Hearing.{ahead, arrivalOf, totalsAfter, firstTotals, overfull, arrivalAt, totalsAt, widthAt, hearing}
+use Rattle.uslp_record.specs.Slots.{find, stateAt}
+use Rattle.uslp_record.specs.Hearing.{ahead, arrivalOf, totalsAfter, firstTotals, overfull, arrivalAt, totalsAt, widthAt, judging}
 use Rattle.uslp_record.specs.declared.Channel.{Channel}
 use Rattle.uslp_record.specs.declared.Totals.{Totals}
 use Rattle.uslp_record.specs.declared.SlotState.{SlotState}
@@ -39,26 +38,26 @@ pub steps-later : (s : Step) (state : SlotState) (k : Channel) (w n d : ℕ) (a 
 steps-later s state k w n d a t is e f h = rw is (rw (← e, ← f) h)
 
 module _ (r : ChannelRecord) (k : Channel) (w n : ℕ) where
-  pub hearing-wide : 7 < w → keeping (refused 10 []) r ≡ hearing r k w n
-  unfolding hearing
-  hearing-wide h = simp (lt-ltb 7 w h)
+  pub judging-wide : 7 < w → judging r k w n ≡ refused 10 []
+  unfolding judging
+  judging-wide h = simp (lt-ltb 7 w h)
 
   module _ (narrow : w ≤ 7) (i : ℕ) (is : i ≡ find k (r .slots)) where
-    pub hearing-none : 8 ≤ i → keeping (refused 13 []) r ≡ hearing r k w n
-    unfolding hearing
-    hearing-none h = rw (← is) (simp (le-ltb 7 w narrow, le-leb 8 i h))
+    pub judging-none : 8 ≤ i → judging r k w n ≡ refused 13 []
+    unfolding judging
+    judging-none h = rw (← is) (simp (le-ltb 7 w narrow, le-leb 8 i h))
 
     module _ (there : i < 8) (v : ℕ) (opened : v ≡ widthAt (stateAt r i)) where
-      pub hearing-width : (w ≡ v → ⊥) → keeping (refused 14 (w ∷ v ∷ [])) r ≡ hearing r k w n
-      unfolding hearing
-      hearing-width h = rw (← is, ← opened) (simp (le-ltb 7 w narrow, lt-leb 8 i there, ne-eqb w v h))
+      pub judging-width : (w ≡ v → ⊥) → judging r k w n ≡ refused 14 (w ∷ v ∷ [])
+      unfolding judging
+      judging-width h = rw (← is, ← opened) (simp (le-ltb 7 w narrow, lt-leb 8 i there, ne-eqb w v h))
 
       module _ (s : Step) (same : w ≡ v) (step : Steps s (arrivalAt (stateAt r i) n) (totalsAt (stateAt r i) n)) where
-        pub hearing-full : s .full ≡ true → keeping (refused 17 []) r ≡ hearing r k w n
-        unfolding hearing
-        hearing-full h = rw (← is, ← opened) (simp (le-ltb 7 w narrow, lt-leb 8 i there, eq-eqb w v same, sym (step .0) ∙ h))
+        pub judging-full : s .full ≡ true → judging r k w n ≡ refused 17 []
+        unfolding judging
+        judging-full h = rw (← is, ← opened) (simp (le-ltb 7 w narrow, lt-leb 8 i there, eq-eqb w v same, sym (step .0) ∙ h))
 
-        pub hearing-done : s .full ≡ false → keeping (done (s .arrival)) (put r i (Heard k w (s .totals))) ≡ hearing r k w n
-        unfolding hearing
-        hearing-done h =
+        pub judging-done : s .full ≡ false → judging r k w n ≡ done (s .arrival, record { at = i; state = Heard k w (s .totals) })
+        unfolding judging
+        judging-done h =
             rw (← is, ← opened, step .1, step .2 h) (simp (le-ltb 7 w narrow, lt-leb 8 i there, eq-eqb w v same, sym (step .0) ∙ h))

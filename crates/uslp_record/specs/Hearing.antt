@@ -1,13 +1,12 @@
 -- Hearing a frame of a channel, as numbers: NEW, REPEAT or LATE, and the totals that it leaves.
-use mathlib.Core.Path.{_≡_}
-use Prim.Native.Nat.{ℕ, _+_, _-_, _^_, _%_, _/_, _<_}
+use Prim.Native.Nat.{ℕ, _+_, _-_, _^_, _%_, _/_}
 use mathlib.Core.Bool.{Bool, cond, not, _||_}
 use mathlib.Core.List.{List, [], _∷_}
 use lib.Dec.{eqb, leb, ltb}
 use Rattle.uslp_kinds.specs.Outcome.{Outcome, done, refused, firstOf}
 use Rattle.uslp_kinds.specs.Answers.{refusal}
-use Rattle.uslp_record.specs.Slots.{find, stateAt, put}
-use Rattle.uslp_record.specs.Record.{Kept, keeping, kept, most}
+use Rattle.uslp_record.specs.Slots.{find, stateAt, changed}
+use Rattle.uslp_record.specs.Record.{Kept, keeping, most}
 use Rattle.uslp_record.specs.declared.Channel.{Channel}
 use Rattle.uslp_record.specs.declared.Totals.{Totals}
 use Rattle.uslp_record.specs.declared.SlotState.{SlotState}
@@ -15,14 +14,13 @@ use Rattle.uslp_record.specs.declared.SlotState.the-variants.{Closed, Op
 use Rattle.uslp_record.specs.declared.ChannelRecord.{ChannelRecord}
 use Rattle.uslp_record.specs.declared.Arrival.{Arrival}
 use Rattle.uslp_record.specs.declared.Arrival.the-variants.{New, Repeat, Late}
-use Rattle.uslp_record.specs.declared.HearAnswer.{HearAnswer}
-use Rattle.uslp_record.specs.declared.HearAnswer.the-variants as hear-answer
-use Rattle.uslp_record.specs.declared.Verdict.{Verdict}
-use Rattle.uslp_record.specs.declared.Verdict.the-variants as verdict
+use Rattle.uslp_record.specs.declared.Change.{Change}
+use Rattle.uslp_record.specs.declared.CountAnswer.{CountAnswer}
+use Rattle.uslp_record.specs.declared.CountAnswer.the-variants as count-answer
 
-abbrev pub paperHeard : HearAnswer → Outcome Arrival
-paperHeard (hear-answer.Done a) = done a
-paperHeard (hear-answer.Refused r) = refusal r
+abbrev pub paperCount : CountAnswer → Outcome (Arrival × Change)
+paperCount (count-answer.Done arrival change) = done (arrival, change)
+paperCount (count-answer.Refused r) = refusal r
 
 -- new count less last by wrapping subtraction, reduced to the width
 abbrev pub ahead : ℕ → ℕ → ℕ → ℕ
@@ -61,27 +59,19 @@ widthAt Closed = 0
 widthAt (Opened channel width) = width
 widthAt (Heard channel width t) = width
 
--- a channel's frame with this width and count: 10 for a width that no frame has, 13, 14, 17
-unfoldable pub hearing : ChannelRecord → Channel → ℕ → ℕ → Kept Arrival
-hearing r k width count =
-    kept
-    (firstOf
+-- a channel's frame with this width and count, and what it changes: 10 for a width that no frame has, 13, 14, 17
+unfoldable pub judging : ChannelRecord → Channel → ℕ → ℕ → Outcome (Arrival × Change)
+judging r k width count =
+    firstOf
     ((ltb 7 width, refused 10 [])
     ∷ (leb 8 (find k (r .slots)), refused 13 [])
     ∷ (not (eqb width (widthAt (stateAt r (find k (r .slots))))), refused 14 (width ∷ widthAt (stateAt r (find k (r .slots))) ∷ []))
     ∷ (overfull (totalsAt (stateAt r (find k (r .slots))) count), refused 17 [])
     ∷ [])
-    (done (arrivalAt (stateAt r (find k (r .slots))) count)))
-    (put r (find k (r .slots)) (Heard k width (totalsAt (stateAt r (find k (r .slots))) count)))
-    r
+    (done
+    (arrivalAt (stateAt r (find k (r .slots))) count, record { at = find k (r .slots); state = Heard k width (totalsAt (stateAt r (find k (r .slots))) count) }))
 
--- what a verdict leaves of a record: another state in one slot, or nothing changed
-abbrev pub judgedIn : ChannelRecord → Verdict → Kept Arrival
-judgedIn r (verdict.Done arrival at state) = keeping (done arrival) (put r at state)
-judgedIn r (verdict.Refused x) = keeping (refusal x) r
-
--- the slot is the one of the eight that holds the channel
-abbrev pub SlotJudged : ChannelRecord → Channel → ℕ → ℕ → Verdict → Type 0
-SlotJudged r k width count (verdict.Done arrival at state) =
-    (at ≡ find k (r .slots)) × (at < 8) × (state ≡ Heard k width (totalsAt (stateAt r at) count))
-SlotJudged r k width count (verdict.Refused x) = Unit {0}
+-- a judgement taken over: done, the record has the change; refused, it stays
+abbrev pub taken : {A : Type 0} → ChannelRecord → Outcome (A × Change) → Kept A
+taken r (done x) = keeping (done (x .0)) (changed r (x .1))
+taken r (refused k vs) = keeping (refused k vs) r

@@ -9,6 +9,7 @@ use Rattle.uslp_record.specs.declared.SlotState.{SlotState}
 use Rattle.uslp_record.specs.declared.SlotState.the-variants.{Closed, Opened, Heard}
 use Rattle.uslp_record.specs.declared.Slot.{Slot}
 use Rattle.uslp_record.specs.declared.ChannelRecord.{ChannelRecord}
+use Rattle.uslp_record.specs.declared.Change.{Change}
 
 -- a channel is a spacecraft id with a channel number
 abbrev pub sameChannel : Channel → Channel → Bool
@@ -50,6 +51,10 @@ stateAt r i = getD (r .slots) i (slotOf Closed) .state
 -- the record with another state in a slot
 abbrev pub put : ChannelRecord → ℕ → SlotState → ChannelRecord
 put r i t = record { slots = set (r .slots) i (slotOf t) }
+
+-- and with a change taken over
+abbrev pub changed : ChannelRecord → Change → ChannelRecord
+changed r c = put r (c .at) (c .state)
 
 abbrev pub emptyRecord : ChannelRecord
 emptyRecord = record { slots = replicate 8 (slotOf Closed) }

@@ -1,62 +1,46 @@
 // Hearing a frame of a channel, as numbers.
 use crate::Arrival;
+use crate::Change;
 use crate::Channel;
 use crate::ChannelRecord;
-use crate::HearAnswer;
-use crate::Hearing;
+use crate::CountAnswer;
+use crate::MOST;
+use crate::SLOTS;
 use crate::SlotState;
 use crate::Totals;
-use crate::Verdict;
-use crate::replaced;
 use crate::search;
 use uslp_kinds::Refusal;
 ghost use mathlib.Core.Path.{_≡_};
 ghost use Prim.Native.Nat.{_+_, _≤_, _<_, _^_};
 ghost use mathlib.Core.Bool.{false};
-ghost use Rattle.uslp_record.specs.Record.{keeping};
-ghost use Rattle.uslp_record.specs.Hearing.{paperHeard, ahead, arrivalOf, totalsAfter, firstTotals, overfull, arrivalAt, totalsAt, widthAt, hearing, judgedIn, SlotJudged};
+ghost use Rattle.uslp_record.specs.Hearing.{paperCount, ahead, arrivalOf, totalsAfter, firstTotals, overfull, arrivalAt, totalsAt, widthAt, judging};
 
 impl ChannelRecord {
+    // What a frame of this channel, width and count is, and what it changes; the record is only read.
     // Refuses BAD_FIELD for a width that no frame has, NOT_OPEN, OTHER_WIDTH, TOTAL_FULL.
-    pub fn hear_count(self, channel: Channel, width: u8, count: u64) -> Hearing
-        ensures { λ r. ⌜ keeping (paperHeard (r .answer)) (r .next) ≡ hearing self channel width count ⌝ }
-    {
-        match self.judge_count(channel, width, count) {
-            Verdict::Done { arrival, at, state } => Hearing {
-                answer: HearAnswer::Done(arrival),
-                next: replaced(self, at, state),
-            },
-            Verdict::Refused(refusal) => Hearing {
-                answer: HearAnswer::Refused(refusal),
-                next: self,
-            },
-        }
-    }
-
-    // The same, but the record is only read: whoever holds it takes the new state over, in place.
-    pub fn judge_count(self, channel: Channel, width: u8, count: u64) -> Verdict
-        ensures { λ r. ⌜ (judgedIn self r ≡ hearing self channel width count) × SlotJudged self channel width count r ⌝ }
+    pub fn judge_count(self, channel: Channel, width: u8, count: u64) -> CountAnswer
+        ensures { λ r. ⌜ paperCount r ≡ judging self channel width count ⌝ }
     {
         if width > 7 {
-            return Verdict::Refused(Refusal::BadField);
+            return CountAnswer::Refused(Refusal::BadField);
         }
         let at = search(self, channel);
-        if at >= 8 {
-            return Verdict::Refused(Refusal::NotOpen);
+        if at >= SLOTS {
+            return CountAnswer::Refused(Refusal::NotOpen);
         }
         let slots = self.slots;
         let slot = slots[at];
         let state = slot.state;
         let opened = width_of(state);
         if width != opened {
-            return Verdict::Refused(Refusal::OtherWidth {
+            return CountAnswer::Refused(Refusal::OtherWidth {
                 frame: width,
                 opened,
             });
         }
         let step = step_of(state, count);
         if step.full {
-            return Verdict::Refused(Refusal::TotalFull);
+            return CountAnswer::Refused(Refusal::TotalFull);
         }
         let arrival = step.arrival;
         let totals = step.totals;
@@ -65,10 +49,9 @@ impl ChannelRecord {
             width,
             totals,
         };
-        Verdict::Done {
+        CountAnswer::Done {
             arrival,
-            at,
-            state: heard,
+            change: Change { at, state: heard },
         }
     }
 }
@@ -185,16 +168,16 @@ fn arrival_of(width: u8, d: u64) -> Arrival
 fn full(totals: Totals) -> bool
     ensures { λ r. ⌜ r ≡ overfull totals ⌝ }
 {
-    if totals.handed_on > 0x0FFF_FFFF_FFFF_FFFF {
+    if totals.handed_on > MOST {
         return true;
     }
-    if totals.missing > 0x0FFF_FFFF_FFFF_FFFF {
+    if totals.missing > MOST {
         return true;
     }
-    if totals.repeats > 0x0FFF_FFFF_FFFF_FFFF {
+    if totals.repeats > MOST {
         return true;
     }
-    totals.late > 0x0FFF_FFFF_FFFF_FFFF
+    totals.late > MOST
 }
 
 // The totals after an arrival: they grew from totals that were not full, so no sum wraps.

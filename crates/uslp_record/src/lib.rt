@@ -3,10 +3,16 @@ use uslp_kinds::DoneAnswer;
 use uslp_kinds::Refusal;
 ghost use mathlib.Core.Path.{_≡_};
 ghost use Rattle.uslp_kinds.specs.Answers.{paperDone};
-ghost use Rattle.uslp_record.specs.Slots.{sameChannel, stateHolds, stateClosed, find, vacant, put, emptyRecord};
+ghost use Rattle.uslp_record.specs.Slots.{sameChannel, stateHolds, stateClosed, find, vacant, changed, emptyRecord};
 ghost use Rattle.uslp_record.specs.Record.{keeping, paperTotal, missingOf, opening, closing, consoleTotal, paperState, showing};
 
 mod counting;
+
+// How many channels a record holds.
+pub const SLOTS: usize = 8;
+
+// The largest total of a channel.
+pub const MOST: u64 = 0x0FFF_FFFF_FFFF_FFFF;
 
 // A spacecraft id with a channel number.
 pub struct Channel {
@@ -41,7 +47,7 @@ pub struct Slot {
 }
 
 pub struct ChannelRecord {
-    pub slots: [Slot; 8],
+    pub slots: [Slot; SLOTS],
 }
 
 // An answer, and the record after the call.
@@ -68,25 +74,16 @@ pub enum Arrival {
     Late,
 }
 
-pub enum HearAnswer {
-    Done(Arrival),
-    Refused(Refusal),
+// A slot and the state that it is to get. `ChannelRecord::with_change` alone takes one over.
+pub struct Change {
+    at: usize,
+    state: SlotState,
 }
 
-// What a hearing changes: the state of one slot, or nothing.
-pub enum Verdict {
-    Done {
-        arrival: Arrival,
-        at: usize,
-        state: SlotState,
-    },
+// What a frame's count is to the record, and what it changes.
+pub enum CountAnswer {
+    Done { arrival: Arrival, change: Change },
     Refused(Refusal),
-}
-
-// An answer to a hearing, and the record after it.
-pub struct Hearing {
-    pub answer: HearAnswer,
-    pub next: ChannelRecord,
 }
 
 impl ChannelRecord {
@@ -97,7 +94,7 @@ impl ChannelRecord {
         let slot = Slot {
             state: SlotState::Closed,
         };
-        ChannelRecord { slots: [slot; 8] }
+        ChannelRecord { slots: [slot; SLOTS] }
     }
 
     // Takes the first closed slot. Refuses BAD_FIELD, ALREADY_OPEN, TABLE_FULL.
@@ -113,16 +110,17 @@ impl ChannelRecord {
         if width > 7 {
             return refused(Refusal::BadField, self);
         }
-        if search(self, channel) < 8 {
+        if search(self, channel) < SLOTS {
             return refused(Refusal::AlreadyOpen, self);
         }
         let at = first_closed(self);
-        if at >= 8 {
+        if at >= SLOTS {
             return refused(Refusal::TableFull, self);
         }
+        let state = SlotState::Opened { channel, width };
         Recorded {
             answer: DoneAnswer::Done,
-            next: replaced(self, at, SlotState::Opened { channel, width }),
+            next: self.with_change(Change { at, state }),
         }
     }
 
@@ -131,12 +129,13 @@ impl ChannelRecord {
         ensures { λ r. ⌜ keeping (paperDone (r .answer)) (r .next) ≡ closing self channel ⌝ }
     {
         let at = search(self, channel);
-        if at >= 8 {
+        if at >= SLOTS {
             return refused(Refusal::NotOpen, self);
         }
+        let state = SlotState::Closed;
         Recorded {
             answer: DoneAnswer::Done,
-            next: replaced(self, at, SlotState::Closed),
+            next: self.with_change(Change { at, state }),
         }
     }
 
@@ -145,13 +144,26 @@ impl ChannelRecord {
         ensures { λ r. ⌜ paperState r ≡ showing self channel ⌝ }
     {
         let at = search(self, channel);
-        if at >= 8 {
+        if at >= SLOTS {
             return StateAnswer::Refused(Refusal::NotOpen);
         }
         let slots = self.slots;
         let slot = slots[at];
         let state = slot.state;
         StateAnswer::Done(state)
+    }
+
+    // The record with a change taken over: the one way in which a slot changes.
+    pub fn with_change(self, change: Change) -> ChannelRecord
+        ensures { λ r. ⌜ r ≡ changed self change ⌝ }
+    {
+        let at = change.at;
+        let state = change.state;
+        let mut next = self;
+        if at < SLOTS {
+            next.slots[at] = Slot { state };
+        }
+        next
     }
 
     // The sum of missing over open channels. Refuses TOTAL_FULL.
@@ -161,11 +173,11 @@ impl ChannelRecord {
         let slots = self.slots;
         let mut sum: u64 = 0;
         let mut i: usize = 0;
-        while i < 8 {
+        while i < SLOTS {
             let slot = slots[i];
             let state = slot.state;
             let missing = missing_of(state);
-            if missing > 0x0FFF_FFFF_FFFF_FFFF {
+            if missing > MOST {
                 return TotalAnswer::Refused(Refusal::TotalFull);
             }
             sum += missing;
@@ -184,14 +196,14 @@ pub fn same_channel(a: Channel, b: Channel) -> bool
     a.vc_id == b.vc_id
 }
 
-// The first slot that holds the channel, or 8.
+// The first slot that holds the channel, or how many there are.
 pub fn search(channels: ChannelRecord, channel: Channel) -> usize
     ensures { λ k. ⌜ k ≡ find channel (channels .slots) ⌝ }
 {
     let slots = channels.slots;
     let mut i: usize = 0;
     let at = loop {
-        if i >= 8 {
+        if i >= SLOTS {
             break i;
         }
         let slot = slots[i];
@@ -204,14 +216,14 @@ pub fn search(channels: ChannelRecord, channel: Channel) -> usize
     at
 }
 
-// The first closed slot, or 8.
+// The first closed slot, or how many there are.
 fn first_closed(channels: ChannelRecord) -> usize
     ensures { λ k. ⌜ k ≡ vacant (channels .slots) ⌝ }
 {
     let slots = channels.slots;
     let mut i: usize = 0;
     let at = loop {
-        if i >= 8 {
+        if i >= SLOTS {
             break i;
         }
         let slot = slots[i];
@@ -256,17 +268,6 @@ fn state_closed(state: SlotState) -> bool
             totals: _,
         } => false,
     }
-}
-
-// The record with another state in a slot.
-pub fn replaced(channels: ChannelRecord, at: usize, state: SlotState) -> ChannelRecord
-    ensures { λ r. ⌜ r ≡ put channels at state ⌝ }
-{
-    let mut next = channels;
-    if at < 8 {
-        next.slots[at] = Slot { state };
-    }
-    next
 }
 
 fn missing_of(state: SlotState) -> u64

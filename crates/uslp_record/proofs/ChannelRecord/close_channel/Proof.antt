@@ -19,14 +19,14 @@ returns c =
     let e = c .refused .ensures in
     joined (ap paperDone (e .0)) (e .1) ∙ closing-none (a .self) (a .channel) _ (c .before .before .search .ensures) (omega arith)
 
-replaced-requires : tie.Need-replaced-requires
-replaced-requires c κs = search needs
+with-change-requires : tie.Need-with-change-requires
+with-change-requires c κs = search needs
 
 returns-2 : tie.Need-returns-2
 returns-2 c =
     let a = c .before .before .before .args in
-    joined refl (c .replaced .ensures) ∙ closing-done (a .self) (a .channel) _ (c .before .before .search .ensures) (omega arith)
+    joined refl (c .with-change .ensures) ∙ closing-done (a .self) (a .channel) _ (c .before .before .search .ensures) (omega arith)
 
 pub close-channel-spec : {M : Type 1} → statement M
 close-channel-spec =
-    tie.close (tie.spec search-requires refused-requires returns replaced-requires returns-2)
+    tie.close (tie.spec search-requires refused-requires returns with-change-requires returns-2)

@@ -1,8 +1,7 @@
--- Each way through hearing is a law of `Hears`. Assumes nothing.
-use mathlib.Core.Path.{ap}
+-- Each way through judging is a law of `Hears`.
+use mathlib.Core.Path.{sym}
 use native.Mathlib.Omega.{arith}
-use Rattle.uslp_record.proofs.Hears.{hearing-wide, hearing-none, hearing-width, hearing-full, hearing-done}
-use Rattle.uslp_record.specs.declared.SlotState.the-variants.{Heard}
+use Rattle.uslp_record.proofs.Hears.{judging-wide, judging-none, judging-width, judging-full, judging-done}
 use borrow.Author.Needs.{needs}
 use Rattle.uslp_record.proofs.ChannelRecord.judge_count.Statement.{statement}
 use Rattle.uslp_record.proofs.ChannelRecord.judge_count.Tie as tie
@@ -10,7 +9,7 @@ use Rattle.uslp_record.proofs.ChannelRecord.judge_count.Tie as tie
 returns : tie.Need-returns
 returns c =
     let a = c .before .args in
-    (hearing-wide (a .self) (a .channel) (a .width) (a .count) (omega arith), tt)
+    sym (judging-wide (a .self) (a .channel) (a .width) (a .count) (omega arith))
 
 search-requires : tie.Need-search-requires
 search-requires c κs = search needs
@@ -18,7 +17,7 @@ search-requires c κs = search needs
 returns-2 : tie.Need-returns-2
 returns-2 c =
     let a = c .before .before .before .args in
-    (hearing-none (a .self) (a .channel) (a .width) (a .count) (omega arith) _ (c .before .search .ensures) (omega arith), tt)
+    sym (judging-none (a .self) (a .channel) (a .width) (a .count) (omega arith) _ (c .before .search .ensures) (omega arith))
 
 mul-slot : tie.Need-mul-slot
 mul-slot c = search needs
@@ -33,7 +32,7 @@ returns-3 : tie.Need-returns-3
 returns-3 c =
     let b = c .before .before .before .before .before in
     let a = b .before .before .args in
-    (hearing-width (a .self) (a .channel) (a .width) (a .count) (omega arith) _ (b .search .ensures) (omega arith) _ (c .before .width-of .ensures) (c .if3 .taken), tt)
+    sym (judging-width (a .self) (a .channel) (a .width) (a .count) (omega arith) _ (b .search .ensures) (omega arith) _ (c .before .width-of .ensures) (c .if3 .taken))
 
 step-of-requires : tie.Need-step-of-requires
 step-of-requires c κs = search needs
@@ -43,17 +42,15 @@ returns-4 c =
     let e = c .before .before .before in
     let b = e .before .before .before .before in
     let a = b .before .before .args in
-    (hearing-full (a .self) (a .channel) (a .width) (a .count) (omega arith) _ (b .search .ensures) (omega arith) _ (e .width-of .ensures) (c .before .step-of .result) (c .before .before .if3 .left) (c .before .step-of .ensures) (c .if4 .taken), tt)
+    sym (judging-full (a .self) (a .channel) (a .width) (a .count) (omega arith) _ (b .search .ensures) (omega arith) _ (e .width-of .ensures) (c .before .step-of .result) (c .before .before .if3 .left) (c .before .step-of .ensures) (c .if4 .taken))
 
 returns-5 : tie.Need-returns-5
 returns-5 c =
     let t = c .before .before in
     let e = t .before .before in
     let b = e .before .before .before .before in
-    let a = b .before .before .args in (
-      hearing-done (a .self) (a .channel) (a .width) (a .count) (omega arith) _ (b .search .ensures) (omega arith) _ (e .width-of .ensures) (t .step-of .result) (t .before .if3 .left) (t .step-of .ensures) (c .before .if4 .left),
-      (b .search .ensures, omega arith, ap (Heard (a .channel) (a .width)) (t .step-of .ensures .2 (c .before .if4 .left))),
-    )
+    let a = b .before .before .args in
+    sym (judging-done (a .self) (a .channel) (a .width) (a .count) (omega arith) _ (b .search .ensures) (omega arith) _ (e .width-of .ensures) (t .step-of .result) (t .before .if3 .left) (t .step-of .ensures) (c .before .if4 .left))
 
 pub judge-count-spec : {M : Type 1} → statement M
 judge-count-spec =

@@ -58,13 +58,13 @@ returns-5 c =
     let e = c .refused5 .ensures in
     joined (ap paperDone (e .0)) (e .1) ∙ opening-full (a .self) (a .channel) (a .width) (omega arith) (c .before .before .before .before .before .before .if2 .left) (omega arith) _ (c .before .before .before .before .search .ensures) (omega arith) _ (c .before .before .first-closed .ensures) (omega arith)
 
-replaced-requires : tie.Need-replaced-requires
-replaced-requires c κs = search needs
+with-change-requires : tie.Need-with-change-requires
+with-change-requires c κs = search needs
 
 returns-6 : tie.Need-returns-6
 returns-6 c =
     let a = c .before .before .before .before .before .before .before .before .before .args in
-    joined refl (c .replaced .ensures) ∙ opening-done (a .self) (a .channel) (a .width) (omega arith) (c .before .before .before .before .before .before .if2 .left) (omega arith) _ (c .before .before .before .before .search .ensures) (omega arith) _ (c .before .before .first-closed .ensures) (omega arith)
+    joined refl (c .with-change .ensures) ∙ opening-done (a .self) (a .channel) (a .width) (omega arith) (c .before .before .before .before .before .before .if2 .left) (omega arith) _ (c .before .before .before .before .search .ensures) (omega arith) _ (c .before .before .first-closed .ensures) (omega arith)
 
 pub open-channel-spec : {M : Type 1} → statement M
 open-channel-spec =
@@ -82,5 +82,5 @@ open-channel-spec =
     first-closed-requires
     refused-requires-5
     returns-5
-    replaced-requires
+    with-change-requires
     returns-6)
