@@ -8,7 +8,7 @@ use Rattle.uslp_record.specs.Record.{Kept, keeping, opening, closing, showing, 
 use Rattle.uslp_record.specs.declared.SlotState.{SlotState}
 use Rattle.uslp_record.specs.declared.SlotState.the-variants.{Closed, Opened, Heard}
 use Rattle.uslp_record.specs.declared.ChannelRecord.{ChannelRecord}
-use Rattle.uslp_hearing.specs.Channel.{frameHearing}
+use Rattle.uslp_hearing.specs.Hearing.{frameHearing}
 use Rattle.uslp_hearing.specs.declared.FrameArrival.{FrameArrival}
 use Rattle.uslp_hearing.specs.declared.FrameArrival.the-variants.{New, Repeat, Late}
 use Rattle.uslp_text.specs.Text.{text}

@@ -25,7 +25,7 @@ use uslp_text::put_text;
 ghost use mathlib.Core.Path.{_≡_};
 ghost use mathlib.Core.List.{[], _∷_, _++_};
 ghost use Rattle.uslp_kinds.specs.Answers.{paperDone};
-ghost use Rattle.uslp_hearing.specs.Channel.{paperFrameHeard};
+ghost use Rattle.uslp_hearing.specs.Hearing.{paperFrameHeard};
 ghost use Rattle.uslp_text.specs.Text.{text, Told};
 ghost use Rattle.uslp_answers.specs.Texts.{fieldsText, answerText};
 ghost use Rattle.uslp_bench_channels.specs.Commands.{channelWords, openReply, closeReply, arrivalText, hearOctets, hearReply, hearLeft, stateText, showText, totalText};

@@ -10,7 +10,7 @@ use Rattle.uslp_writer.specs.Frame.{frameWriting}
 use Rattle.uslp_reader.specs.Reader.{frameReading}
 use Rattle.uslp_record.specs.Slots.{find, vacant, emptyRecord}
 use Rattle.uslp_record.specs.Record.{opening, closing, showing, missingIn, tooMuchIn, consoleTotal}
-use Rattle.uslp_record.specs.Hearing.{hearing}
+use Rattle.uslp_record.specs.Judging.{hearing}
 use Rattle.uslp_arguments.specs.Arguments.{troubledBy, behind, endedAt, numberWord, flagWord, optionalWord, octetsWord, octetsAfter}
 use Rattle.uslp_arguments.specs.Headers.{idWords, flagWords, headerOf, fieldWords, frameWords, dataRest}
 use Rattle.uslp_bench_channels.specs.Commands.{channelWords, openReply, closeReply, hearReply, hearLeft, showText, totalText}

@@ -3,7 +3,7 @@ use mathlib.Core.Path.{_≡_, sym, _∙_, ap}
 use Prim.Native.Nat.{ℕ, suc, _+_, _-_, _*_, _^_, _%_, _/_, _<_, _≤_}
 use native.Mathlib.Omega.{arith}
 use native.Mathlib.Nat.{mod-lt, mod-eq-of-lt, mod-add-mod, add-mod-mod, add-mul-mod-self-right, add-mod-right, pow-suc}
-use Rattle.uslp_record.specs.Hearing.{ahead}
+use Rattle.uslp_record.specs.Judging.{ahead}
 use Rattle.uslp_record.proofs.Count.{counts-positive, counts-le, counts-divide}
 
 -- below m, x is known from x + b modulo m

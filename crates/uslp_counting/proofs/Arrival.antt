@@ -8,7 +8,7 @@ use lib.ListN.{length}
 use Rattle.uslp_kinds.specs.Outcome.{done, refused}
 use Rattle.uslp_record.specs.Slots.{sameChannel, find, stateAt, put}
 use Rattle.uslp_record.specs.Record.{Kept, keeping}
-use Rattle.uslp_record.specs.Hearing.{ahead, arrivalOf, overfull, arrivalAt, totalsAt, widthAt, hearing}
+use Rattle.uslp_record.specs.Judging.{ahead, arrivalOf, overfull, arrivalAt, totalsAt, widthAt, hearing}
 use Rattle.uslp_record.specs.declared.Channel.{Channel}
 use Rattle.uslp_record.specs.declared.SlotState.{SlotState}
 use Rattle.uslp_record.specs.declared.SlotState.the-variants.{Heard}
@@ -20,7 +20,7 @@ use Rattle.uslp_record.proofs.Hears.{hearing-full, hearing-done}
 use Rattle.uslp_layout.specs.Layout.{dataStart}
 use Rattle.uslp_reader.specs.Reader.{frameReading, contentsIn}
 use Rattle.uslp_reader.specs.declared.TransferFrame.{TransferFrame}
-use Rattle.uslp_hearing.specs.Channel.{channelOf, frameArrival, withFrame, afterReading, frameHearing}
+use Rattle.uslp_hearing.specs.Hearing.{channelOf, frameArrival, withFrame, afterReading, frameHearing}
 use Rattle.uslp_hearing.specs.declared.FrameArrival.the-variants as frame-arrival
 use Rattle.uslp_counting.specs.History.{answerOf, handing, Sender, frameAt}
 use Rattle.uslp_counting.proofs.Ahead.{half-twice, ahead-on, ahead-back}

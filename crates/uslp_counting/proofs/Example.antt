@@ -5,7 +5,7 @@ use Prim.Native.Nat.{ℕ}
 use lib.ListN.{replicate}
 use Rattle.uslp_kinds.specs.Outcome.{done}
 use Rattle.uslp_record.specs.Slots.{find, slotOf}
-use Rattle.uslp_record.specs.Hearing.{firstTotals, hearing}
+use Rattle.uslp_record.specs.Judging.{firstTotals, hearing}
 use Rattle.uslp_record.specs.declared.Channel.{Channel}
 use Rattle.uslp_record.specs.declared.SlotState.the-variants.{Closed, Heard}
 use Rattle.uslp_record.specs.declared.ChannelRecord.{ChannelRecord}

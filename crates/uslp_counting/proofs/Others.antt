@@ -8,7 +8,7 @@ use native.Mathlib.Decide.{decLt}
 use Rattle.uslp_kinds.specs.Outcome.{Outcome, done, refused}
 use Rattle.uslp_record.specs.Slots.{sameChannel, find, stateAt}
 use Rattle.uslp_record.specs.Record.{Kept, keeping}
-use Rattle.uslp_record.specs.Hearing.{widthAt, hearing}
+use Rattle.uslp_record.specs.Judging.{widthAt, hearing}
 use Rattle.uslp_record.specs.declared.Channel.{Channel}
 use Rattle.uslp_record.specs.declared.SlotState.{SlotState}
 use Rattle.uslp_record.specs.declared.ChannelRecord.{ChannelRecord}
@@ -17,7 +17,7 @@ use Rattle.uslp_record.specs.declared.Arrival.the-variants.{New, Repeat, Late}
 use Rattle.uslp_record.proofs.Hears.{hearing-wide, hearing-width}
 use Rattle.uslp_reader.specs.Reader.{frameReading, contentsIn}
 use Rattle.uslp_reader.specs.declared.TransferFrame.{TransferFrame}
-use Rattle.uslp_hearing.specs.Channel.{channelOf, withFrame, afterReading, frameHearing}
+use Rattle.uslp_hearing.specs.Hearing.{channelOf, withFrame, afterReading, frameHearing}
 use Rattle.uslp_hearing.specs.declared.FrameArrival.{FrameArrival}
 use Rattle.uslp_counting.specs.History.{recordOf, answerOf, handing}
 use Rattle.uslp_counting.proofs.Slots.{same-one}

@@ -8,7 +8,7 @@ use Rattle.uslp_kinds.proofs.Outcomes.{not-done}
 use Rattle.uslp_record.specs.Record.{Kept, opening, closing}
 use Rattle.uslp_record.specs.declared.Channel.{Channel}
 use Rattle.uslp_record.specs.declared.ChannelRecord.{ChannelRecord}
-use Rattle.uslp_hearing.specs.Channel.{frameHearing}
+use Rattle.uslp_hearing.specs.Hearing.{frameHearing}
 use Rattle.uslp_counting.specs.History.{recordOf, answerOf}
 use Rattle.uslp_counting.proofs.Ways.{opening-ways, closing-ways, frame-ways}
 

@@ -7,7 +7,7 @@ use lib.ListN.{length, length-set}
 use Rattle.uslp_kinds.specs.Outcome.{done}
 use Rattle.uslp_record.specs.Slots.{sameChannel, stateHolds, holds, isClosed, find, vacant, slotOf, stateAt, put}
 use Rattle.uslp_record.specs.Record.{Kept, keeping, opening, closing}
-use Rattle.uslp_record.specs.Hearing.{hearing}
+use Rattle.uslp_record.specs.Judging.{hearing}
 use Rattle.uslp_record.specs.declared.Channel.{Channel}
 use Rattle.uslp_record.specs.declared.SlotState.{SlotState}
 use Rattle.uslp_record.specs.declared.SlotState.the-variants.{Closed, Opened, Heard}

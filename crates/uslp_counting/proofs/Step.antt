@@ -8,7 +8,7 @@ use native.Mathlib.Decide.{decLt}
 use Rattle.uslp_kinds.specs.Outcome.{done}
 use Rattle.uslp_record.specs.Slots.{find, put}
 use Rattle.uslp_record.specs.Record.{Kept, keeping, missingOf}
-use Rattle.uslp_record.specs.Hearing.{ahead, arrivalOf, totalsAfter, firstTotals, widthAt}
+use Rattle.uslp_record.specs.Judging.{ahead, arrivalOf, totalsAfter, firstTotals, widthAt}
 use Rattle.uslp_record.specs.declared.Channel.{Channel}
 use Rattle.uslp_record.specs.declared.Totals.{Totals}
 use Rattle.uslp_record.specs.declared.SlotState.{SlotState}
@@ -16,7 +16,7 @@ use Rattle.uslp_record.specs.declared.SlotState.the-variants.{Opened, Heard}
 use Rattle.uslp_record.specs.declared.ChannelRecord.{ChannelRecord}
 use Rattle.uslp_record.specs.declared.Arrival.{Arrival}
 use Rattle.uslp_record.specs.declared.Arrival.the-variants.{New, Repeat, Late}
-use Rattle.uslp_hearing.specs.Channel.{frameArrival, frameHearing}
+use Rattle.uslp_hearing.specs.Hearing.{frameArrival, frameHearing}
 use Rattle.uslp_hearing.specs.declared.FrameArrival.{FrameArrival}
 use Rattle.uslp_counting.specs.Places.{furthest, aheadOf, Close, lost}
 use Rattle.uslp_counting.specs.History.{Handing, recordOf, answerOf, handing, Sender, frameAt, following, handings}

@@ -10,7 +10,7 @@ use Rattle.uslp_record.specs.declared.Channel.{Channel}
 use Rattle.uslp_record.specs.declared.SlotState.{SlotState}
 use Rattle.uslp_record.specs.declared.SlotState.the-variants.{Opened}
 use Rattle.uslp_record.specs.declared.ChannelRecord.{ChannelRecord}
-use Rattle.uslp_hearing.specs.Channel.{frameHearing}
+use Rattle.uslp_hearing.specs.Hearing.{frameHearing}
 use Rattle.uslp_counting.specs.Places.{leaders, Window, lost}
 use Rattle.uslp_counting.specs.History.{Handing, recordOf, answerOf, after, run, handing, handed, Unfilled, missingFor, Sender, frameAt, Call, Event, callOf, following, handings, places}
 use Rattle.uslp_counting.specs.History.Event.{arrives, damaged, elsewhere, misfits, opened, closed, again}

@@ -9,7 +9,7 @@ use Rattle.uslp_kinds.specs.Outcome.{Outcome, done, refused, firstOf}
 use Rattle.uslp_kinds.proofs.Firsts.{Check, refusing, Passing, first-done}
 use Rattle.uslp_record.specs.Slots.{find, vacant, stateAt, put}
 use Rattle.uslp_record.specs.Record.{Kept, keeping, kept, opening, closing}
-use Rattle.uslp_record.specs.Hearing.{overfull, arrivalAt, totalsAt, widthAt, hearing}
+use Rattle.uslp_record.specs.Judging.{overfull, arrivalAt, totalsAt, widthAt, hearing}
 use Rattle.uslp_record.specs.declared.Channel.{Channel}
 use Rattle.uslp_record.specs.declared.Totals.{Totals}
 use Rattle.uslp_record.specs.declared.SlotState.the-variants.{Closed, Opened, Heard}
@@ -17,7 +17,7 @@ use Rattle.uslp_record.specs.declared.ChannelRecord.{ChannelRecord}
 use Rattle.uslp_record.specs.declared.Arrival.{Arrival}
 use Rattle.uslp_reader.specs.Reader.{frameReading}
 use Rattle.uslp_reader.specs.declared.TransferFrame.{TransferFrame}
-use Rattle.uslp_hearing.specs.Channel.{channelOf, frameArrival, withFrame, afterReading, frameHearing}
+use Rattle.uslp_hearing.specs.Hearing.{channelOf, frameArrival, withFrame, afterReading, frameHearing}
 use Rattle.uslp_hearing.specs.declared.FrameArrival.{FrameArrival}
 use Rattle.uslp_counting.specs.History.{Call, recordOf, after}
 use Rattle.uslp_counting.specs.History.Call.{hears, opens, closes}

@@ -14,7 +14,7 @@ use Rattle.uslp_record.specs.Slots.{sameChannel, find, stateAt}
 use Rattle.uslp_record.specs.Record.{Kept, keeping, opening, closing, missingOf}
 use Rattle.uslp_record.specs.declared.Channel.{Channel}
 use Rattle.uslp_record.specs.declared.ChannelRecord.{ChannelRecord}
-use Rattle.uslp_hearing.specs.Channel.{channelOf, frameHearing}
+use Rattle.uslp_hearing.specs.Hearing.{channelOf, frameHearing}
 use Rattle.uslp_hearing.specs.declared.FrameArrival.{FrameArrival}
 use Rattle.uslp_hearing.specs.declared.FrameArrival.the-variants.{New, Repeat, Late}
 

@@ -5,7 +5,7 @@ use Rattle.uslp_data_field_header.specs.Field.{fieldReading}
 use Rattle.uslp_writer.specs.Frame.{frameWriting}
 use Rattle.uslp_reader.specs.Reader.{frameReading}
 use Rattle.uslp_record.specs.Slots.{find}
-use Rattle.uslp_record.specs.Hearing.{hearing}
+use Rattle.uslp_record.specs.Judging.{hearing}
 use Rattle.uslp_demands.specs.Cases.{AllAnswered}
 
 pub all-answered : AllAnswered

@@ -9,7 +9,7 @@ use Rattle.uslp_kinds.proofs.Back.{back, one-to-one}
 use Rattle.uslp_reader.specs.Reader.{frameReading}
 use Rattle.uslp_record.specs.declared.Channel.{Channel}
 use Rattle.uslp_record.proofs.Back.{keeping-one}
-use Rattle.uslp_hearing.specs.Channel.{paperFrameHeard}
+use Rattle.uslp_hearing.specs.Hearing.{paperFrameHeard}
 use Rattle.uslp_hearing.specs.declared.FrameArrival.the-variants.{New, Repeat, Late}
 use Rattle.uslp_hearing.specs.declared.FrameHeard.the-variants.{Done, Refused}
 use Rattle.uslp_hearing.proofs.Heard.{heard-back, frame-verdict-one}

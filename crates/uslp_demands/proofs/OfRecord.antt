@@ -9,7 +9,7 @@ use Rattle.uslp_kinds.specs.declared.DoneAnswer.the-variants as done-answer
 use Rattle.uslp_kinds.specs.declared.Refusal.the-variants.{NotOpen, TotalFull}
 use Rattle.uslp_record.specs.Slots.{find, vacant, slotOf, put, emptyRecord}
 use Rattle.uslp_record.specs.Record.{Kept, keeping, paperTotal, paperState, opening, closing, showing, missingIn, tooMuchIn, consoleTotal}
-use Rattle.uslp_record.specs.Hearing.{paperHeard, hearing}
+use Rattle.uslp_record.specs.Judging.{paperHeard, hearing}
 use Rattle.uslp_record.specs.declared.ChannelRecord.{ChannelRecord}
 use Rattle.uslp_record.specs.declared.SlotState.{SlotState}
 use Rattle.uslp_record.specs.declared.SlotState.the-variants.{Closed, Opened, Heard}

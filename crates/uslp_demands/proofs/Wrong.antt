@@ -23,11 +23,11 @@ use Rattle.uslp_reader.specs.declared.FrameAnswer.the-variants.{Done, Refused}
 use Rattle.uslp_reader.proofs as reader
 use Rattle.uslp_record.specs.Slots.{find, slotOf}
 use Rattle.uslp_record.specs.Record.{Kept, keeping, missingOf}
-use Rattle.uslp_record.specs.Hearing.{hearing}
+use Rattle.uslp_record.specs.Judging.{hearing}
 use Rattle.uslp_record.specs.declared.ChannelRecord.{ChannelRecord}
 use Rattle.uslp_record.specs.declared.SlotState.{SlotState}
 use Rattle.uslp_record.specs.declared.SlotState.the-variants.{Closed}
-use Rattle.uslp_hearing.specs.Channel.{paperFrameHeard, frameHearing}
+use Rattle.uslp_hearing.specs.Hearing.{paperFrameHeard, frameHearing}
 use Rattle.uslp_hearing.specs.declared.FrameArrival.{FrameArrival}
 use Rattle.uslp_hearing.specs.declared.FrameArrival.the-variants.{New, Repeat}
 use Rattle.uslp_hearing.specs.declared.FrameHeard.the-variants as heard-answer

@@ -16,7 +16,7 @@ use Rattle.uslp_reader.specs.Reader.{frameReading, contentsIn}
 use Rattle.uslp_reader.specs.declared.TransferFrame.{TransferFrame}
 use Rattle.uslp_record.specs.Slots.{put, emptyRecord}
 use Rattle.uslp_record.specs.Record.{Kept, keeping}
-use Rattle.uslp_record.specs.Hearing.{firstTotals, hearing}
+use Rattle.uslp_record.specs.Judging.{firstTotals, hearing}
 use Rattle.uslp_record.specs.declared.Channel.{Channel}
 use Rattle.uslp_record.specs.declared.ChannelRecord.{ChannelRecord}
 use Rattle.uslp_record.specs.declared.SlotState.the-variants.{Heard}

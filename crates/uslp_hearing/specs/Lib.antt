@@ -1,1 +1,1 @@
-pub mod Channel
+pub mod Hearing

@@ -4,16 +4,13 @@ use uslp_primary_header::PrimaryHeader;
 use uslp_reader::FrameAnswer;
 use uslp_reader::TransferFrame;
 use uslp_record::Arrival;
+use uslp_record::Change;
 use uslp_record::Channel;
 use uslp_record::ChannelRecord;
-use uslp_record::SlotState;
-use uslp_record::Verdict;
-use uslp_record::replaced;
+use uslp_record::CountAnswer;
 ghost use mathlib.Core.Path.{_≡_};
 ghost use Rattle.uslp_record.specs.Record.{keeping};
-ghost use Rattle.uslp_kinds.specs.Outcome.{done};
-ghost use Rattle.uslp_reader.specs.Reader.{frameReading};
-ghost use Rattle.uslp_hearing.specs.Channel.{channelOf, paperFrameHeard, frameArrival, heardIn, frameHearing, frameJudgedIn, InSlots, SlotOf, handedOn};
+ghost use Rattle.uslp_hearing.specs.Hearing.{channelOf, paperHear, paperJudge, frameArrival, judgedFrame, frameJudging, frameHearing, handedOn};
 
 // What hearing a frame finds: NEW, with the frame and how many are missing before it, or nothing to hand on.
 pub enum FrameArrival {
@@ -22,64 +19,63 @@ pub enum FrameArrival {
     Late,
 }
 
-pub enum FrameHeard {
+pub enum HearAnswer {
     Done(FrameArrival),
     Refused(Refusal),
 }
 
 // An answer to a hearing, and the record after it.
-pub struct FrameHearing {
-    pub answer: FrameHeard,
+pub struct Hearing {
+    pub answer: HearAnswer,
     pub next: ChannelRecord,
 }
 
-// What a hearing changes: the state of one slot, or nothing.
-pub enum FrameVerdict {
+// What hearing a frame finds, and what it changes.
+pub enum JudgeAnswer {
     Done {
         arrival: FrameArrival,
-        at: usize,
-        state: SlotState,
+        change: Change,
     },
     Refused(Refusal),
 }
 
 // Refuses what reading refuses, then NOT_OPEN, OTHER_WIDTH, TOTAL_FULL.
-pub fn hear(channels: ChannelRecord, buf: &[u8], has_fecf: bool) -> FrameHearing
-    ensures { λ r. ⌜ keeping (paperFrameHeard (r .answer)) (r .next) ≡ frameHearing channels (now (buf .entry)) «has_fecf» ⌝ }
+pub fn hear(channels: ChannelRecord, buf: &[u8], has_fecf: bool) -> Hearing
+    ensures { λ r. ⌜ keeping (paperHear (r .answer)) (r .next) ≡ frameHearing channels (now (buf .entry)) «has_fecf» ⌝ }
 {
     match judge(channels, buf, has_fecf) {
-        FrameVerdict::Done { arrival, at, state } => FrameHearing {
-            answer: FrameHeard::Done(arrival),
-            next: replaced(channels, at, state),
+        JudgeAnswer::Done { arrival, change } => Hearing {
+            answer: HearAnswer::Done(arrival),
+            next: channels.with_change(change),
         },
-        FrameVerdict::Refused(refusal) => FrameHearing {
-            answer: FrameHeard::Refused(refusal),
+        JudgeAnswer::Refused(refusal) => Hearing {
+            answer: HearAnswer::Refused(refusal),
             next: channels,
         },
     }
 }
 
-// The same, but the record is only read: whoever holds it takes the new state over, in place.
-pub fn judge(channels: ChannelRecord, buf: &[u8], has_fecf: bool) -> FrameVerdict
-    ensures { λ r. ⌜ (frameJudgedIn channels r ≡ frameHearing channels (now (buf .entry)) «has_fecf») × InSlots r × SlotOf channels (frameReading (now (buf .entry)) «has_fecf») r ⌝ }
+// The same, but the record is only read: whoever holds it takes the change over, by `with_change`.
+pub fn judge(channels: ChannelRecord, buf: &[u8], has_fecf: bool) -> JudgeAnswer
+    ensures { λ r. ⌜ paperJudge r ≡ frameJudging channels (now (buf .entry)) «has_fecf» ⌝ }
 {
     match TransferFrame::from_bytes(buf, has_fecf) {
         FrameAnswer::Done(frame) => judge_frame(channels, frame),
-        FrameAnswer::Refused(refusal) => FrameVerdict::Refused(refusal),
+        FrameAnswer::Refused(refusal) => JudgeAnswer::Refused(refusal),
     }
 }
 
 // The data that a hearing hands on: a part of the lent octets, nothing unless the frame is NEW.
-pub fn handed_on(answer: FrameHeard, buf: &[u8]) -> &[u8]
-    ensures { λ r. ⌜ now r ≡ handedOn (paperFrameHeard answer) (now (buf .entry)) ⌝ }
+pub fn handed_on(answer: HearAnswer, buf: &[u8]) -> &[u8]
+    ensures { λ r. ⌜ now r ≡ handedOn (paperHear answer) (now (buf .entry)) ⌝ }
 {
     match answer {
-        FrameHeard::Done(arrival) => match arrival {
+        HearAnswer::Done(arrival) => match arrival {
             FrameArrival::New { gap: _, frame } => frame.data(buf),
             FrameArrival::Repeat => &buf[0..0],
             FrameArrival::Late => &buf[0..0],
         },
-        FrameHeard::Refused(_) => &buf[0..0],
+        HearAnswer::Refused(_) => &buf[0..0],
     }
 }
 
@@ -93,8 +89,8 @@ pub fn channel_of(header: PrimaryHeader) -> Channel
     }
 }
 
-fn judge_frame(channels: ChannelRecord, frame: TransferFrame) -> FrameVerdict
-    ensures { λ r. ⌜ (frameJudgedIn channels r ≡ heardIn channels frame) × InSlots r × SlotOf channels (done frame) r ⌝ }
+fn judge_frame(channels: ChannelRecord, frame: TransferFrame) -> JudgeAnswer
+    ensures { λ r. ⌜ paperJudge r ≡ judgedFrame channels frame ⌝ }
 {
     let header = frame.primary_header;
     let counted = channels.judge_count(
@@ -103,12 +99,11 @@ fn judge_frame(channels: ChannelRecord, frame: TransferFrame) -> FrameVerdict
         header.vc_frame_count,
     );
     match counted {
-        Verdict::Done { arrival, at, state } => FrameVerdict::Done {
+        CountAnswer::Done { arrival, change } => JudgeAnswer::Done {
             arrival: frame_arrival(arrival, frame),
-            at,
-            state,
+            change,
         },
-        Verdict::Refused(refusal) => FrameVerdict::Refused(refusal),
+        CountAnswer::Refused(refusal) => JudgeAnswer::Refused(refusal),
     }
 }
 

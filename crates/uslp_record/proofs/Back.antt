@@ -3,7 +3,7 @@ use mathlib.Core.Path.{_≡_, refl, ap}
 use Rattle.uslp_kinds.specs.Outcome.{Outcome}
 use Rattle.uslp_kinds.proofs.Back.{back, refusal-back}
 use Rattle.uslp_record.specs.Record.{keeping, paperTotal, paperState}
-use Rattle.uslp_record.specs.Hearing.{paperCount}
+use Rattle.uslp_record.specs.Judging.{paperCount}
 use Rattle.uslp_record.specs.declared.ChannelRecord.{ChannelRecord}
 use Rattle.uslp_record.specs.declared.Arrival.{Arrival}
 use Rattle.uslp_record.specs.declared.Change.{Change}

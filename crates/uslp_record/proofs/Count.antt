@@ -9,7 +9,7 @@ use lib.Dec.{eqb, leb, ltb}
 use lib.Pow.{pow-add}
 use borrow.Author.Tests.{lt-ltb, le-ltb, ltb-false, le-leb, lt-leb, leb-true, eq-eqb, ne-eqb}
 use Rattle.uslp_record.specs.Record.{most}
-use Rattle.uslp_record.specs.Hearing.{ahead, arrivalOf, totalsAfter, overfull}
+use Rattle.uslp_record.specs.Judging.{ahead, arrivalOf, totalsAfter, overfull}
 use Rattle.uslp_record.specs.declared.Totals.{Totals}
 use Rattle.uslp_record.specs.declared.Arrival.{Arrival}
 use Rattle.uslp_record.specs.declared.Arrival.the-variants.{New, Repeat, Late}

@@ -7,7 +7,7 @@ use borrow.Author.Tests.{lt-ltb, le-ltb, le-leb, lt-leb, eq-eqb, ne-eqb}
 use Rattle.uslp_kinds.specs.Outcome.{done, refused}
 use Rattle.uslp_record.proofs.Count.{full-after}
 use Rattle.uslp_record.specs.Slots.{find, stateAt}
-use Rattle.uslp_record.specs.Hearing.{ahead, arrivalOf, totalsAfter, firstTotals, overfull, arrivalAt, totalsAt, widthAt, judging}
+use Rattle.uslp_record.specs.Judging.{ahead, arrivalOf, totalsAfter, firstTotals, overfull, arrivalAt, totalsAt, widthAt, judging}
 use Rattle.uslp_record.specs.declared.Channel.{Channel}
 use Rattle.uslp_record.specs.declared.Totals.{Totals}
 use Rattle.uslp_record.specs.declared.SlotState.{SlotState}

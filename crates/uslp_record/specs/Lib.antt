@@ -1,3 +1,3 @@
 pub mod Slots
 pub mod Record
-pub mod Hearing
+pub mod Judging

@@ -13,7 +13,7 @@ use uslp_kinds::Refusal;
 ghost use mathlib.Core.Path.{_≡_};
 ghost use Prim.Native.Nat.{_+_, _≤_, _<_, _^_};
 ghost use mathlib.Core.Bool.{false};
-ghost use Rattle.uslp_record.specs.Hearing.{paperCount, ahead, arrivalOf, totalsAfter, firstTotals, overfull, arrivalAt, totalsAt, widthAt, judging};
+ghost use Rattle.uslp_record.specs.Judging.{paperCount, ahead, arrivalOf, totalsAfter, firstTotals, overfull, arrivalAt, totalsAt, widthAt, judging};
 
 impl ChannelRecord {
     // What a frame of this channel, width and count is, and what it changes; the record is only read.

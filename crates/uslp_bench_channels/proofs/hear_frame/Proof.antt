@@ -1,6 +1,6 @@
 -- `uslp_bench_channels::hear_frame` meets its contract: what hearing answers is told, and what it leaves is the record.
 -- Assumes nothing.
-use Rattle.uslp_hearing.specs.Channel.{paperFrameHeard, frameHearing}
+use Rattle.uslp_hearing.specs.Hearing.{paperFrameHeard, frameHearing}
 use Rattle.uslp_bench_channels.specs.Commands.{arrivalText}
 use Rattle.uslp_bench_channels.proofs.Laws.{replied-kept}
 use borrow.Author.Needs.{needs}

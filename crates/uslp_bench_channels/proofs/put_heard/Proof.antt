@@ -2,7 +2,7 @@
 -- Assumes nothing.
 use mathlib.Core.List.{List}
 use Prim.Native.Nat.{ℕ}
-use Rattle.uslp_hearing.specs.Channel.{paperFrameHeard}
+use Rattle.uslp_hearing.specs.Hearing.{paperFrameHeard}
 use Rattle.uslp_hearing.specs.declared.FrameHeard.{FrameHeard}
 use Rattle.uslp_answers.specs.Texts.{answerText}
 use Rattle.uslp_bench_channels.specs.Commands.{arrivalText}

@@ -1,6 +1,6 @@
 -- `uslp_hearing::frame_arrival` meets its contract: NEW brings the frame along.
 use mathlib.Core.Path.{sym, ap}
-use Rattle.uslp_hearing.specs.Channel.{frameArrival}
+use Rattle.uslp_hearing.specs.Hearing.{frameArrival}
 use borrow.Author.Needs.{needs}
 use Rattle.uslp_hearing.proofs.frame_arrival.Statement.{statement}
 use Rattle.uslp_hearing.proofs.frame_arrival.Tie as tie

@@ -1,9 +1,9 @@
 -- `uslp_hearing::handed_on` meets its contract: only NEW shows data.
 use mathlib.Core.Path.{sym, ap, _∙_}
 use denote.Ref.{now}
-use Rattle.uslp_hearing.specs.declared.FrameHeard.{FrameHeard}
-use Rattle.uslp_hearing.specs.declared.FrameHeard.the-variants.{Done}
-use Rattle.uslp_hearing.specs.Channel.{paperFrameHeard, handedOn}
+use Rattle.uslp_hearing.specs.declared.HearAnswer.{HearAnswer}
+use Rattle.uslp_hearing.specs.declared.HearAnswer.the-variants.{Done}
+use Rattle.uslp_hearing.specs.Hearing.{paperHear, handedOn}
 use borrow.Author.Needs.{needs}
 use Rattle.uslp_hearing.proofs.handed_on.Statement.{statement}
 use Rattle.uslp_hearing.proofs.handed_on.Tie as tie
@@ -57,7 +57,7 @@ returns : tie.Need-returns
 returns c =
     let k = c .before .before .before .before .before in
     c .«data» .ensures
-    ∙ sym (ap (λ (y : FrameHeard). handedOn (paperFrameHeard y) (now (k .before .before .before .args .buf))) (k .answer .given .1 ∙ ap Done (c .before .before .arrival .given .1)))
+    ∙ sym (ap (λ (y : HearAnswer). handedOn (paperHear y) (now (k .before .before .before .args .buf))) (k .answer .given .1 ∙ ap Done (c .before .before .arrival .given .1)))
 
 returns-2 : tie.Need-returns-2
 returns-2 c = search needs

@@ -1,52 +1,37 @@
--- `uslp_hearing::judge_frame` meets its contract: the frame is counted for its channel.
--- Assumes nothing.
-use Rattle.uslp_hearing.proofs.Heard.{counted-done, counted-refused, in-slots, slot-of}
+-- `judge_frame` meets its contract: the frame is counted for its channel.
+use mathlib.Core.Path.{ap, sym, _∙_}
+use Rattle.uslp_kinds.specs.Outcome.{done}
+use Rattle.uslp_record.specs.Judging.{paperCount}
+use Rattle.uslp_hearing.specs.declared.FrameArrival.{FrameArrival}
+use Rattle.uslp_hearing.proofs.Heard.{judged-by}
 use borrow.Author.Needs.{needs}
 use Rattle.uslp_hearing.proofs.judge_frame.Statement.{statement}
 use Rattle.uslp_hearing.proofs.judge_frame.Tie as tie
 
-channel-of-requires : tie.Need-channel-of-requires
-channel-of-requires c κs = search needs
-
-judge-count-requires : tie.Need-judge-count-requires
-judge-count-requires c κs = search needs
-
-enum-known-counted : tie.Need-enum-known-counted
-enum-known-counted c = search needs
-
-frame-arrival-requires : tie.Need-frame-arrival-requires
-frame-arrival-requires c κs = search needs
-
-enum-known-counted-2 : tie.Need-enum-known-counted-2
-enum-known-counted-2 c = search needs
-
 returns : tie.Need-returns
 returns c =
     let k = c .before .before .before .before in
-    let a = k .before .before .before .args in (
-      counted-done (a .channels) (a .frame) (k .before .channel-of .result) (k .before .channel-of .ensures) (k .judge-count .result) (k .judge-count .ensures .0) _ _ _ _
-          (c .before .before .counted .given .1) (c .frame-arrival .ensures),
-      in-slots (a .channels) (a .frame .«primary_header») (k .before .channel-of .result) (k .before .channel-of .ensures) (k .judge-count .result) (k .judge-count .ensures .1) _ _ _ (c .before .before .counted .given .1),
-      slot-of (a .channels) (a .frame .«primary_header») (k .before .channel-of .result) (k .before .channel-of .ensures) (k .judge-count .result) (k .judge-count .ensures .1) _ _ _ (c .before .before .counted .given .1),
-    )
+    let a = k .before .before .before .args in
+    let given = c .before .before .counted .given in
+    ap (λ (y : FrameArrival). done (y, given .0 .1 .0)) (c .frame-arrival .ensures)
+    ∙ judged-by (a .channels) (a .frame) (k .before .channel-of .result) (k .before .channel-of .ensures)
+    (sym (ap paperCount (given .1)) ∙ k .judge-count .ensures)
 
 returns-2 : tie.Need-returns-2
 returns-2 c =
     let k = c .before .before .before in
-    let a = k .before .before .before .args in (
-      counted-refused (a .channels) (a .frame) (k .before .channel-of .result) (k .before .channel-of .ensures) (k .judge-count .result) (k .judge-count .ensures .0) _ (c .before .counted2 .given .1),
-      tt,
-      tt,
-    )
+    let a = k .before .before .before .args in
+    judged-by (a .channels) (a .frame) (k .before .channel-of .result) (k .before .channel-of .ensures)
+    (sym (ap paperCount (c .before .counted2 .given .1)) ∙ k .judge-count .ensures)
 
 pub judge-frame-spec : {M : Type 1} → statement M
 judge-frame-spec =
     tie.close
     (tie.spec
-    channel-of-requires
-    judge-count-requires
-    enum-known-counted
-    frame-arrival-requires
-    enum-known-counted-2
+    (λ c κs. search needs)
+    (λ c κs. search needs)
+    (λ c. search needs)
+    (λ c κs. search needs)
+    (λ c. search needs)
     returns
     returns-2)

@@ -1,7 +1,7 @@
 -- The totals before are not too high, and the gap is short: no sum wraps. Assumes nothing.
 use mathlib.Core.Path.{sym, ap}
 use native.Mathlib.Omega.{arith}
-use Rattle.uslp_record.specs.Hearing.{totalsAfter}
+use Rattle.uslp_record.specs.Judging.{totalsAfter}
 use Rattle.uslp_record.specs.declared.Arrival.{Arrival}
 use Rattle.uslp_record.proofs.Count.{full-not, gap-fits}
 use borrow.Author.Needs.{needs}

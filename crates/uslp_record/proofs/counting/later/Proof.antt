@@ -1,6 +1,6 @@
 -- Totals that were too high stay so; others are counted, then tested. Assumes nothing.
 use mathlib.Core.Path.{sym, _∙_}
-use Rattle.uslp_record.specs.Hearing.{totalsAfter}
+use Rattle.uslp_record.specs.Judging.{totalsAfter}
 use Rattle.uslp_record.proofs.Hears.{later-full, later-done}
 use borrow.Author.Needs.{needs}
 use Rattle.uslp_record.proofs.counting.later.Statement.{statement}

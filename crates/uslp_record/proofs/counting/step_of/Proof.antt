@@ -2,7 +2,7 @@
 use mathlib.Core.Path.{ap}
 use native.Mathlib.Omega.{arith}
 use Rattle.uslp_record.specs.declared.SlotState.{SlotState}
-use Rattle.uslp_record.specs.Hearing.{arrivalAt, totalsAt, widthAt}
+use Rattle.uslp_record.specs.Judging.{arrivalAt, totalsAt, widthAt}
 use Rattle.uslp_record.proofs.Count.{arrives-near}
 use Rattle.uslp_record.proofs.Hears.{steps-first, steps-later}
 use borrow.Author.Needs.{needs}

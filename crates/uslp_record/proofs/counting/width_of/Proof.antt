@@ -1,6 +1,6 @@
 -- The width is that of the opening, heard or not. Assumes nothing.
 use mathlib.Core.Path.{sym, ap}
-use Rattle.uslp_record.specs.Hearing.{widthAt}
+use Rattle.uslp_record.specs.Judging.{widthAt}
 use borrow.Author.Needs.{needs}
 use Rattle.uslp_record.proofs.counting.width_of.Statement.{statement}
 use Rattle.uslp_record.proofs.counting.width_of.Tie as tie

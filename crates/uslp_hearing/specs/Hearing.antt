@@ -1,0 +1,65 @@
+-- Hearing a frame: what it answers, what it hands on, and the record that it leaves, in the order of document 01.
+use Prim.Native.Nat.{ℕ}
+use mathlib.Core.Bool.{Bool}
+use mathlib.Core.List.{List, []}
+use Rattle.uslp_kinds.specs.Outcome.{Outcome, done, refused, andThen}
+use Rattle.uslp_kinds.specs.Answers.{refusal}
+use Rattle.uslp_primary_header.specs.declared.PrimaryHeader.{PrimaryHeader}
+use Rattle.uslp_reader.specs.Reader.{frameReading, contentsIn}
+use Rattle.uslp_reader.specs.declared.TransferFrame.{TransferFrame}
+use Rattle.uslp_record.specs.Record.{Kept}
+use Rattle.uslp_record.specs.Judging.{judging, taken}
+use Rattle.uslp_record.specs.declared.Channel.{Channel}
+use Rattle.uslp_record.specs.declared.Change.{Change}
+use Rattle.uslp_record.specs.declared.ChannelRecord.{ChannelRecord}
+use Rattle.uslp_record.specs.declared.Arrival.{Arrival}
+use Rattle.uslp_record.specs.declared.Arrival.the-variants as arrival
+use Rattle.uslp_hearing.specs.declared.FrameArrival.{FrameArrival}
+use Rattle.uslp_hearing.specs.declared.FrameArrival.the-variants.{New, Repeat, Late}
+use Rattle.uslp_hearing.specs.declared.HearAnswer.{HearAnswer}
+use Rattle.uslp_hearing.specs.declared.HearAnswer.the-variants as hear-answer
+use Rattle.uslp_hearing.specs.declared.JudgeAnswer.{JudgeAnswer}
+use Rattle.uslp_hearing.specs.declared.JudgeAnswer.the-variants as judge-answer
+
+abbrev pub paperHear : HearAnswer → Outcome FrameArrival
+paperHear (hear-answer.Done a) = done a
+paperHear (hear-answer.Refused r) = refusal r
+
+abbrev pub paperJudge : JudgeAnswer → Outcome (FrameArrival × Change)
+paperJudge (judge-answer.Done arrival change) = done (arrival, change)
+paperJudge (judge-answer.Refused r) = refusal r
+
+-- a channel is a spacecraft id with a channel number
+abbrev pub channelOf : PrimaryHeader → Channel
+channelOf h = record { «spacecraft_id» = h .«spacecraft_id»; «vc_id» = h .«vc_id» }
+
+-- only NEW brings the frame along
+abbrev pub frameArrival : TransferFrame → Arrival → FrameArrival
+frameArrival x (arrival.New gap) = New gap x
+frameArrival x arrival.Repeat = Repeat
+frameArrival x arrival.Late = Late
+
+abbrev pub withFrame : TransferFrame → Outcome (Arrival × Change) → Outcome (FrameArrival × Change)
+withFrame x (done y) = done (frameArrival x (y .0), y .1)
+withFrame x (refused k vs) = refused k vs
+
+-- a frame that was read is counted for its channel: 13, 14, 17
+abbrev pub judgedFrame : ChannelRecord → TransferFrame → Outcome (FrameArrival × Change)
+judgedFrame r x =
+    withFrame x
+    (judging r (channelOf (x .«primary_header»)) (x .«primary_header» .«vc_frame_count_len») (x .«primary_header» .«vc_frame_count»))
+
+-- judging octets: any reader's refusal is the answer
+abbrev pub frameJudging : ChannelRecord → List ℕ → Bool → Outcome (FrameArrival × Change)
+frameJudging r s fecf = andThen (frameReading s fecf) (judgedFrame r)
+
+-- hearing them takes the judgement over
+abbrev pub frameHearing : ChannelRecord → List ℕ → Bool → Kept FrameArrival
+frameHearing r s fecf = taken r (frameJudging r s fecf)
+
+-- what an answer hands on of the octets
+abbrev pub handedOn : Outcome FrameArrival → List ℕ → List ℕ
+handedOn (done (New gap x)) s = contentsIn x s
+handedOn (done Repeat) s = []
+handedOn (done Late) s = []
+handedOn (refused k vs) s = []
