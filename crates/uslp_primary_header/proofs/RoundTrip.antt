@@ -68,6 +68,10 @@ module _ (s : List ℕ) (h : PrimaryHeader) (e : headerReading s ≡ done h) whe
   pub read-long : lenHeader h ≤ length s
   read-long = rw (sym (read-passed .1)) (ltb-false (length s) (lenHeader (headerIn s)) (read-passed .0 4))
 
+  -- three bits say the count's width
+  pub read-width : h .«vc_frame_count_len» ≤ 7
+  read-width = let e : headerIn s .«vc_frame_count_len» ≡ h .«vc_frame_count_len» = ap (λ (k : PrimaryHeader). k .«vc_frame_count_len») (read-passed .1) in omega arith
+
 -- the header that stands in octets fits, and is laid out as they are
 fitting-in : (s : List ℕ) → AreOctets s → Fitting (headerIn s)
 fitting-in s oct =

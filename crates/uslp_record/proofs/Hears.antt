@@ -1,10 +1,13 @@
 -- What each way through hearing a frame leaves is what the rule says.
 use mathlib.Core.Path.{_≡_, refl, sym, _∙_, ap}
-use mathlib.Core.Bool.{Bool, true, false}
-use mathlib.Core.List.{[], _∷_}
+use mathlib.Core.Bool.{Bool, true, false, not}
+use mathlib.Core.List.{List, [], _∷_}
 use Prim.Native.Nat.{ℕ, _<_, _≤_}
+use native.Mathlib.Omega.{arith}
+use lib.Dec.{eqb, leb}
 use borrow.Author.Tests.{lt-ltb, le-ltb, le-leb, lt-leb, eq-eqb, ne-eqb}
-use Rattle.uslp_kinds.specs.Outcome.{done, refused}
+use Rattle.uslp_kinds.specs.Outcome.{done, refused, firstOf}
+use Rattle.uslp_kinds.proofs.Outcomes.{not-done}
 use Rattle.uslp_record.proofs.Count.{full-after}
 use Rattle.uslp_record.specs.Slots.{find, stateAt}
 use Rattle.uslp_record.specs.Judging.{ahead, arrivalOf, totalsAfter, firstTotals, overfull, arrivalAt, totalsAt, widthAt, judging}
@@ -15,6 +18,7 @@ use Rattle.uslp_record.specs.declared.SlotState.the-variants.{Heard}
 use Rattle.uslp_record.specs.declared.ChannelRecord.{ChannelRecord}
 use Rattle.uslp_record.specs.declared.Arrival.{Arrival}
 use Rattle.uslp_record.specs.declared.Arrival.the-variants.{New}
+use Rattle.uslp_record.specs.declared.Change.{Change}
 use Rattle.uslp_record.specs.declared.counting.Step.{Step}
 
 -- a step to a frame that is `arrival`, with `after` for the totals after it
@@ -36,6 +40,14 @@ steps-first s t n a q e = rw (a, q) (e .0, e .1, λ f. e .2)
 pub steps-later : (s : Step) (state : SlotState) (k : Channel) (w n d : ℕ) (a : Arrival) (t : Totals) → state ≡ Heard k w t → d ≡ ahead w n (t .last) → a ≡ arrivalOf w d →
     Steps s a (totalsAfter a n t) → Steps s (arrivalAt state n) (totalsAt state n)
 steps-later s state k w n d a t is e f h = rw is (rw (← e, ← f) h)
+
+-- the checks behind the first answer otherwise
+others : (a b c : Bool) (x : Arrival × Change) (us : List ℕ) {vs : List ℕ}
+    → firstOf ((a, refused 13 []) ∷ (b, refused 14 us) ∷ (c, refused 17 []) ∷ []) (done x) ≡ refused 10 vs → ⊥
+others true b c x us e = let z : _≡_ {A = ℕ} 13 10 = cc in omega arith
+others false true c x us e = let z : _≡_ {A = ℕ} 14 10 = cc in omega arith
+others false false true x us e = let z : _≡_ {A = ℕ} 17 10 = cc in omega arith
+others false false false x us e = not-done (sym e)
 
 module _ (r : ChannelRecord) (k : Channel) (w n : ℕ) where
   pub judging-wide : 7 < w → judging r k w n ≡ refused 10 []
@@ -61,3 +73,10 @@ module _ (r : ChannelRecord) (k : Channel) (w n : ℕ) where
         unfolding judging
         judging-done h =
             rw (← is, ← opened, step .1, step .2 h) (simp (le-ltb 7 w narrow, lt-leb 8 i there, eq-eqb w v same, sym (step .0) ∙ h))
+
+  -- a width that a frame has is never a bad field
+  pub judging-field : w ≤ 7 → {vs : List ℕ} → judging r k w n ≡ refused 10 vs → ⊥
+  unfolding judging
+  judging-field narrow e =
+      let i = find k (r .slots) in
+      others (leb 8 i) (not (eqb w (widthAt (stateAt r i)))) (overfull (totalsAt (stateAt r i) n)) _ _ (simp (le-ltb 7 w narrow) at e)

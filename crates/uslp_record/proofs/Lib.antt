@@ -4,3 +4,6 @@ pub mod Tally
 pub mod Count
 pub mod Hears
 pub mod Back
+pub mod Slots
+pub mod Ways
+pub mod Keeps

@@ -1,3 +1,4 @@
 pub mod Slots
 pub mod Record
 pub mod Judging
+pub mod Made
