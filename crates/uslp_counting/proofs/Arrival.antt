@@ -1,113 +1,112 @@
 -- What an arrival of the channel does: it is answered by its place and the furthest before it, and its slot is replaced.
-use mathlib.Core.Path.{_≡_, refl, sym, _∙_, ap, subst}
+use mathlib.Core.Path.{_≡_, refl, sym, _∙_, ap}
 use mathlib.Core.Bool.{Bool, true, false, cond}
 use mathlib.Core.List.{List, [], _∷_, _++_}
 use Prim.Native.Nat.{ℕ, _+_, _-_, _^_, _%_, _/_, _<_, _≤_}
 use native.Mathlib.Omega.{arith}
-use lib.ListN.{length}
-use Rattle.uslp_kinds.specs.Outcome.{done, refused}
+use Rattle.uslp_kinds.specs.Outcome.{Outcome, done, refused, andThen}
+use Rattle.uslp_kinds.proofs.Outcomes.{not-done}
 use Rattle.uslp_record.specs.Slots.{sameChannel, find, stateAt, put}
-use Rattle.uslp_record.specs.Record.{Kept, keeping}
-use Rattle.uslp_record.specs.Judging.{ahead, arrivalOf, overfull, arrivalAt, totalsAt, widthAt, hearing}
+use Rattle.uslp_record.specs.Record.{keeping}
+use Rattle.uslp_record.specs.Judging.{ahead, arrivalOf, overfull, arrivalAt, totalsAt, widthAt, judging, taken}
 use Rattle.uslp_record.specs.declared.Channel.{Channel}
 use Rattle.uslp_record.specs.declared.SlotState.{SlotState}
 use Rattle.uslp_record.specs.declared.SlotState.the-variants.{Heard}
 use Rattle.uslp_record.specs.declared.ChannelRecord.{ChannelRecord}
 use Rattle.uslp_record.specs.declared.Arrival.{Arrival}
 use Rattle.uslp_record.specs.declared.Arrival.the-variants.{New, Repeat, Late}
+use Rattle.uslp_record.specs.declared.Change.{Change}
+use Rattle.uslp_record.specs.declared.counting.Step.{Step}
 use Rattle.uslp_record.proofs.Count.{counts-positive, arrives-again, arrives-new, arrives-late}
-use Rattle.uslp_record.proofs.Hears.{hearing-full, hearing-done}
-use Rattle.uslp_layout.specs.Layout.{dataStart}
+use Rattle.uslp_record.proofs.Hears.{Steps, judging-full, judging-done}
+use Rattle.uslp_record.proofs.Slots.{same-self}
 use Rattle.uslp_reader.specs.Reader.{frameReading, contentsIn}
 use Rattle.uslp_reader.specs.declared.TransferFrame.{TransferFrame}
-use Rattle.uslp_hearing.specs.Hearing.{channelOf, frameArrival, withFrame, afterReading, frameHearing}
+use Rattle.uslp_hearing.specs.Hearing.{channelOf, frameArrival, withFrame, judgedFrame, frameHearing}
 use Rattle.uslp_hearing.specs.declared.FrameArrival.the-variants as frame-arrival
-use Rattle.uslp_counting.specs.History.{answerOf, handing, Sender, frameAt}
-use Rattle.uslp_counting.proofs.Ahead.{half-twice, ahead-on, ahead-back}
+use Rattle.uslp_roundtrip.specs.Laid.{frameOf}
 use Rattle.uslp_roundtrip.proofs.Complete.{complete, complete-contents}
-use Rattle.uslp_counting.proofs.Slots.{same-self}
+use Rattle.uslp_counting.specs.History.{answerOf, handing, Roomy, Sender, frameAt, handingAt, Call}
+use Rattle.uslp_counting.specs.History.Call.{hears}
+use Rattle.uslp_counting.proofs.Ahead.{half-twice, ahead-on, ahead-back}
 use Rattle.uslp_counting.proofs.Stands.{Stands}
 
--- a frame of the channel in its width, for which no total is full, is done
+-- a frame of the channel in its width is done, or a total is full
 module _ (K : Channel) (r : ChannelRecord) (t : SlotState) (at : Stands K r t) (w n : ℕ) (narrow : w ≤ 7) (wide : w ≡ widthAt t) where
-  abbrev leaves : SlotState → Kept Arrival
-  leaves u = keeping (done (arrivalAt u n)) (put r (find K (r .slots)) (Heard K w (totalsAt u n)))
-
   abbrev found : SlotState
   found = stateAt r (find K (r .slots))
 
-  hearing-own : (answerOf (hearing r K w n) ≡ refused 17 [] → ⊥) → hearing r K w n ≡ leaves t
-  hearing-own room = go (overfull (totalsAt found n)) refl
-    where
-      opened : w ≡ widthAt found
-      opened = wide ∙ ap widthAt (sym (at .state))
+  abbrev pub changeOwn : Change
+  changeOwn = record { at = find K (r .slots); state = Heard K w (totalsAt t n) }
 
-      go : (b : Bool) → overfull (totalsAt found n) ≡ b → hearing r K w n ≡ leaves t
-      go true e =
-          absurd
-          (room (ap answerOf
-          (sym (hearing-full r K w n narrow (find K (r .slots)) refl (at .there) w opened
-          (record { full = true; arrival = arrivalAt found n; totals = totalsAt found n }) refl (sym e, refl, λ f. refl) refl))))
-      go false e =
-          subst (λ (u : SlotState). hearing r K w n ≡ leaves u) (at .state)
-          (sym (hearing-done r K w n narrow (find K (r .slots)) refl (at .there) w opened
-          (record { full = false; arrival = arrivalAt found n; totals = totalsAt found n }) refl (sym e, refl, λ f. refl) refl))
+  -- the step that the slot's own state makes
+  abbrev own : Bool → Step
+  own b = record { full = b; arrival = arrivalAt found n; totals = totalsAt found n }
+
+  module _ (b : Bool) (e : overfull (totalsAt t n) ≡ b) where
+    stepped : Steps (own b) (arrivalAt found n) (totalsAt found n)
+    stepped = (sym (ap (λ (u : SlotState). overfull (totalsAt u n)) (at .state) ∙ e), refl, λ f. refl)
+
+    opened : w ≡ widthAt found
+    opened = wide ∙ ap widthAt (sym (at .state))
+
+  pub judging-own : overfull (totalsAt t n) ≡ false → judging r K w n ≡ done (arrivalAt t n, changeOwn)
+  judging-own e =
+      judging-done r K w n narrow (find K (r .slots)) refl (at .there) w (opened false e) (own false) refl (stepped false e) refl
+      ∙ ap (λ (u : SlotState). done (arrivalAt u n, record { at = find K (r .slots); state = Heard K w (totalsAt u n) })) (at .state)
+
+  pub judging-filled : overfull (totalsAt t n) ≡ true → judging r K w n ≡ refused 17 []
+  judging-filled e = judging-full r K w n narrow (find K (r .slots)) refl (at .there) w (opened true e) (own true) refl (stepped true e) refl
 
 module _ {K : Channel} {width : ℕ} {fecf : Bool} (S : Sender K width fecf) where
   -- the count at a place, and the frame that the reader finds there
   abbrev pub countAt : ℕ → ℕ
   countAt p = (S .start + p) % 256 ^ width
 
-  abbrev pub readAt : ℕ → TransferFrame
-  readAt p =
-      record {
-        «primary_header» = S .header p;
-        «data_field_header» = S .field p;
-        «operational_control_field» = S .ocf p;
-        «data_start» = dataStart (S .header p) (S .field p);
-        «data_len» = length (S .contents p);
-      }
+  abbrev pub sentAt : ℕ → TransferFrame
+  sentAt p = frameOf (S .header p) (S .field p) (S .contents p) (S .ocf p)
 
   module _ (p : ℕ) (behind : List ℕ) where
-    reads : frameReading (frameAt S p ++ behind) fecf ≡ done (readAt p)
+    reads : frameReading (frameAt S p ++ behind) fecf ≡ done (sentAt p)
     reads = complete fecf (S .spare p) (S .header p) (S .field p) (S .contents p) (S .ocf p) behind (S .spare-fits p) (S .well-formed p)
 
     same-here : sameChannel (channelOf (S .header p)) K ≡ true
     same-here = ap (λ (k : Channel). sameChannel k K) (S .of-channel p) ∙ same-self K
 
     -- what is handed on where the answer is NEW
-    pub handing-new : (gap : ℕ) → handing K (frameAt S p ++ behind) (done (frame-arrival.New gap (readAt p))) ≡ (gap, S .contents p) ∷ []
+    pub handing-new : (gap : ℕ) → handing K (frameAt S p ++ behind) (done (frame-arrival.New gap (sentAt p))) ≡ handingAt S gap p ∷ []
     handing-new gap =
-        ap (λ (b : Bool). cond b ((gap, contentsIn (readAt p) (frameAt S p ++ behind)) ∷ []) []) same-here
-        ∙ ap (λ (l : List ℕ). (gap, l) ∷ [])
+        ap (λ (b : Bool). cond b ((gap, sentAt p, contentsIn (sentAt p) (frameAt S p ++ behind)) ∷ []) []) same-here
+        ∙ ap (λ (l : List ℕ). (gap, sentAt p, l) ∷ [])
         (complete-contents fecf (S .spare p) (S .header p) (S .field p) (S .contents p) (S .ocf p) behind (S .spare-fits p) (S .well-formed p))
 
-    -- no total is full
-    abbrev pub Room : ChannelRecord → Type 0
-    Room r =
-        (x : TransferFrame) → frameReading (frameAt S p ++ behind) fecf ≡ done x → sameChannel (channelOf (x .«primary_header»)) K ≡ true
-        → answerOf (frameHearing r (frameAt S p ++ behind) fecf) ≡ refused 17 [] → ⊥
-
-    module _ (r : ChannelRecord) (t : SlotState) (at : Stands K r t) (hi : width ≤ 7)
-        (wide : width ≡ widthAt t) (room : Room r) where
-      frame-heard : frameHearing r (frameAt S p ++ behind) fecf ≡ withFrame (readAt p) (hearing r K width (countAt p))
+    module _ (r : ChannelRecord) (t : SlotState) (at : Stands K r t) (hi : width ≤ 7) (wide : width ≡ widthAt t) where
+      frame-heard : frameHearing r (frameAt S p ++ behind) fecf ≡ taken r (withFrame (sentAt p) (judging r K width (countAt p)))
       frame-heard =
-          ap (afterReading r) reads
-          ∙ ap (λ (k : Channel). withFrame (readAt p) (hearing r k (S .header p .«vc_frame_count_len») (S .header p .«vc_frame_count»))) (S .of-channel p)
-          ∙ ap (λ (w : ℕ). withFrame (readAt p) (hearing r K w (S .header p .«vc_frame_count»))) (S .of-width p)
-          ∙ ap (λ (n : ℕ). withFrame (readAt p) (hearing r K width n)) (S .numbered p)
+          ap (λ (o : Outcome TransferFrame). taken r (andThen o (judgedFrame r))) reads
+          ∙ ap (λ (k : Channel). taken r (withFrame (sentAt p) (judging r k (S .header p .«vc_frame_count_len») (S .header p .«vc_frame_count»)))) (S .of-channel p)
+          ∙ ap (λ (w : ℕ). taken r (withFrame (sentAt p) (judging r K w (S .header p .«vc_frame_count»)))) (S .of-width p)
+          ∙ ap (λ (n : ℕ). taken r (withFrame (sentAt p) (judging r K width n))) (S .numbered p)
 
-      full-too : (q : Kept Arrival) → answerOf q ≡ refused 17 [] → answerOf (withFrame (readAt p) q) ≡ refused 17 []
-      full-too (keeping (done a) q) e = let z : _≡_ {A = ℕ} 0 1 = cc in absurd (omega arith)
-      full-too (keeping (refused k vs) q) e = let a : k ≡ 17 = cc in let b : vs ≡ [] = cc in cc
+      pub arrival-done : overfull (totalsAt t (countAt p)) ≡ false
+          → frameHearing r (frameAt S p ++ behind) fecf
+          ≡ keeping (done (frameArrival (sentAt p) (arrivalAt t (countAt p)))) (put r (find K (r .slots)) (Heard K width (totalsAt t (countAt p))))
+      arrival-done e = frame-heard ∙ ap (λ (o : Outcome (Arrival × Change)). taken r (withFrame (sentAt p) o)) (judging-own K r t at width (countAt p) hi wide e)
 
-      pub arrival-done : frameHearing r (frameAt S p ++ behind) fecf
-          ≡ keeping (done (frameArrival (readAt p) (arrivalAt t (countAt p)))) (put r (find K (r .slots)) (Heard K width (totalsAt t (countAt p))))
-      arrival-done =
-          frame-heard
-          ∙ ap (withFrame (readAt p))
-          (hearing-own K r t at width (countAt p) hi wide
-          (λ e. room (readAt p) reads same-here (ap answerOf frame-heard ∙ full-too (hearing r K width (countAt p)) e)))
+      -- a hearing that does not get TOTAL_FULL, and totals that are not full
+      pub room-in : Roomy frameHearing K r (hears (frameAt S p ++ behind) fecf) → overfull (totalsAt t (countAt p)) ≡ false
+      room-in room = go (overfull (totalsAt t (countAt p))) refl
+        where
+          go : (b : Bool) → overfull (totalsAt t (countAt p)) ≡ b → b ≡ false
+          go true e =
+              absurd
+              (room (sentAt p) reads same-here
+              (ap answerOf
+              (frame-heard ∙ ap (λ (o : Outcome (Arrival × Change)). taken r (withFrame (sentAt p) o)) (judging-filled K r t at width (countAt p) hi wide e))))
+          go false e = refl
+
+      pub room-out : overfull (totalsAt t (countAt p)) ≡ false → Roomy frameHearing K r (hears (frameAt S p ++ behind) fecf)
+      room-out e x d same f = not-done (sym (sym (ap answerOf (arrival-done e)) ∙ f))
 
   -- p arrives after the furthest was q
   module _ (lo : 1 ≤ width) (hi : width ≤ 7) (p q last : ℕ) (is : last ≡ countAt q) where

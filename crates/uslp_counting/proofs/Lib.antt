@@ -1,14 +1,5 @@
-pub mod Slots
-pub mod Ways
 pub mod Ahead
 pub mod Lost
 pub mod Stands
 pub mod Others
 pub mod Arrival
-pub mod Step
-pub mod Theorem
-pub mod Refusals
-pub mod Example
-pub mod Distinct
-pub mod Console
-pub mod Witness

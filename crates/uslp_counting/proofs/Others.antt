@@ -1,27 +1,30 @@
--- What the hearings that are no arrival leave as it was: nothing is handed on of the channel, and it stands as it stood.
+-- What the hearings that are no arrival leave as it was: nothing is handed on of the channel, it stands as it stood, and no total of it is full.
 use mathlib.Core.Path.{_≡_, refl, sym, _∙_, ap, subst}
 use mathlib.Core.Bool.{Bool, true, false, cond}
 use mathlib.Core.List.{List, [], _∷_}
 use Prim.Native.Nat.{ℕ, _<_}
 use native.Mathlib.Omega.{arith}
 use native.Mathlib.Decide.{decLt}
-use Rattle.uslp_kinds.specs.Outcome.{Outcome, done, refused}
+use Rattle.uslp_kinds.specs.Outcome.{Outcome, done, refused, andThen}
+use Rattle.uslp_kinds.proofs.Outcomes.{not-done, done-one}
 use Rattle.uslp_record.specs.Slots.{sameChannel, find, stateAt}
 use Rattle.uslp_record.specs.Record.{Kept, keeping}
-use Rattle.uslp_record.specs.Judging.{widthAt, hearing}
+use Rattle.uslp_record.specs.Judging.{widthAt, judging, taken}
 use Rattle.uslp_record.specs.declared.Channel.{Channel}
 use Rattle.uslp_record.specs.declared.SlotState.{SlotState}
 use Rattle.uslp_record.specs.declared.ChannelRecord.{ChannelRecord}
 use Rattle.uslp_record.specs.declared.Arrival.{Arrival}
 use Rattle.uslp_record.specs.declared.Arrival.the-variants.{New, Repeat, Late}
-use Rattle.uslp_record.proofs.Hears.{hearing-wide, hearing-width}
+use Rattle.uslp_record.specs.declared.Change.{Change}
+use Rattle.uslp_record.proofs.Hears.{judging-wide, judging-width}
+use Rattle.uslp_record.proofs.Slots.{true-false, same-one}
 use Rattle.uslp_reader.specs.Reader.{frameReading, contentsIn}
 use Rattle.uslp_reader.specs.declared.TransferFrame.{TransferFrame}
-use Rattle.uslp_hearing.specs.Hearing.{channelOf, withFrame, afterReading, frameHearing}
+use Rattle.uslp_hearing.specs.Hearing.{channelOf, withFrame, judgedFrame, frameHearing}
 use Rattle.uslp_hearing.specs.declared.FrameArrival.{FrameArrival}
-use Rattle.uslp_counting.specs.History.{recordOf, answerOf, handing}
-use Rattle.uslp_counting.proofs.Slots.{same-one}
-use Rattle.uslp_counting.proofs.Stands.{Stands, stands-hearing}
+use Rattle.uslp_counting.specs.History.{recordOf, answerOf, handing, Roomy, Call}
+use Rattle.uslp_counting.specs.History.Call.{hears}
+use Rattle.uslp_counting.proofs.Stands.{Stands, stands-judging}
 
 -- a hearing of the octets s hands nothing on for K, and K stands in the state t after it
 pub record Passes (K : Channel) (s : List ℕ) (t : SlotState) (q : Kept FrameArrival) : Type 0 where
@@ -29,52 +32,75 @@ pub record Passes (K : Channel) (s : List ℕ) (t : SlotState) (q : Kept FrameAr
   pub stands : Stands K (recordOf q) t
 
 module _ (K : Channel) (r : ChannelRecord) (t : SlotState) (at : Stands K r t) where
-  -- a frame of the channel in another width is refused
-  misfit-ways : (P : Kept Arrival → Type 0) (w n : ℕ) → (w ≡ widthAt t → ⊥)
-      → ((j : ℕ) (vs : List ℕ) → P (keeping (refused j vs) r)) → P (hearing r K w n)
+  -- a frame of the channel in another width is refused, and not for a total
+  misfit-ways : (P : Outcome (Arrival × Change) → Type 0) (w n : ℕ) → (w ≡ widthAt t → ⊥)
+      → ((j : ℕ) (vs : List ℕ) → j < 17 → P (refused j vs)) → P (judging r K w n)
   misfit-ways P w n odd f = go (decLt 7 w)
     where
-      go : Dec (7 < w) → P (hearing r K w n)
-      go (yes h) = subst P (hearing-wide r K w n h) (f 10 [])
+      go : Dec (7 < w) → P (judging r K w n)
+      go (yes h) = subst P (sym (judging-wide r K w n h)) (f 10 [] (omega arith))
       go (no h) =
           let i = find K (r .slots) in
-          subst P (hearing-width r K w n (omega arith) i refl (at .there) (widthAt (stateAt r i)) refl (λ e. odd (e ∙ ap widthAt (at .state))))
-          (f 14 (w ∷ widthAt (stateAt r i) ∷ []))
+          subst P (sym (judging-width r K w n (omega arith) i refl (at .there) (widthAt (stateAt r i)) refl (λ e. odd (e ∙ ap widthAt (at .state)))))
+          (f 14 (w ∷ widthAt (stateAt r i) ∷ []) (omega arith))
 
   module _ (s : List ℕ) where
     -- a frame of another channel that was read
-    passes-other : (x : TransferFrame) → sameChannel (channelOf (x .«primary_header»)) K ≡ false → (q : Kept Arrival) → Stands K (recordOf q) t
-        → Passes K s t (withFrame x q)
-    passes-other x other (keeping (done (New gap)) q) h =
-        record { nothing = ap (λ (b : Bool). cond b ((gap, contentsIn x s) ∷ []) []) other; stands = h }
-    passes-other x other (keeping (done Repeat) q) h = record { nothing = refl; stands = h }
-    passes-other x other (keeping (done Late) q) h = record { nothing = refl; stands = h }
-    passes-other x other (keeping (refused k vs) q) h = record { nothing = refl; stands = h }
+    passes-other : (x : TransferFrame) → sameChannel (channelOf (x .«primary_header»)) K ≡ false → (o : Outcome (Arrival × Change)) → Stands K (recordOf (taken r o)) t
+        → Passes K s t (taken r (withFrame x o))
+    passes-other x other (done (New gap, c)) h =
+        record { nothing = ap (λ (b : Bool). cond b ((gap, x, contentsIn x s) ∷ []) []) other; stands = h }
+    passes-other x other (done (Repeat, c)) h = record { nothing = refl; stands = h }
+    passes-other x other (done (Late, c)) h = record { nothing = refl; stands = h }
+    passes-other x other (refused k vs) h = record { nothing = refl; stands = h }
 
     module _ (fecf : Bool) where
-      by-reading : (o : Outcome TransferFrame) → frameReading s fecf ≡ o → Passes K s t (afterReading r o) → Passes K s t (frameHearing r s fecf)
-      by-reading o e = subst (λ (v : Outcome TransferFrame). Passes K s t (afterReading r v)) (sym e)
+      by-reading : (o : Outcome TransferFrame) → frameReading s fecf ≡ o → Passes K s t (taken r (andThen o (judgedFrame r))) → Passes K s t (frameHearing r s fecf)
+      by-reading o e = subst (λ (v : Outcome TransferFrame). Passes K s t (taken r (andThen v (judgedFrame r)))) (sym e)
 
-      pub passes-damaged : (k : ℕ) (vs : List ℕ) → frameReading s fecf ≡ refused k vs → Passes K s t (frameHearing r s fecf)
-      passes-damaged k vs e = by-reading (refused k vs) e (record { nothing = refl; stands = at })
+      module _ (k : ℕ) (vs : List ℕ) (e : frameReading s fecf ≡ refused k vs) where
+        pub passes-damaged : Passes K s t (frameHearing r s fecf)
+        passes-damaged = by-reading (refused k vs) e (record { nothing = refl; stands = at })
+
+        pub roomy-damaged : Roomy frameHearing K r (hears s fecf)
+        roomy-damaged x d = absurd (not-done (sym e ∙ d))
 
       module _ (x : TransferFrame) (e : frameReading s fecf ≡ done x) where
-        pub passes-elsewhere : sameChannel (channelOf (x .«primary_header»)) K ≡ false → Passes K s t (frameHearing r s fecf)
-        passes-elsewhere other =
-            let h = x .«primary_header» in
-            by-reading (done x) e
-            (passes-other x other (hearing r (channelOf h) (h .«vc_frame_count_len») (h .«vc_frame_count»))
-            (stands-hearing K r t at (channelOf h) other (h .«vc_frame_count_len») (h .«vc_frame_count»)))
+        module _ (other : sameChannel (channelOf (x .«primary_header»)) K ≡ false) where
+          pub passes-elsewhere : Passes K s t (frameHearing r s fecf)
+          passes-elsewhere =
+              let h = x .«primary_header» in
+              by-reading (done x) e
+              (passes-other x other (judging r (channelOf h) (h .«vc_frame_count_len») (h .«vc_frame_count»))
+              (stands-judging K r t at (channelOf h) other (h .«vc_frame_count_len») (h .«vc_frame_count»)))
 
-        pub passes-misfit : (x .«primary_header» .«vc_frame_count_len» ≡ widthAt t → ⊥) → Passes K s t (frameHearing r s fecf)
-        passes-misfit odd = go (sameChannel (channelOf (x .«primary_header»)) K) refl
-          where
-            go : (b : Bool) → sameChannel (channelOf (x .«primary_header»)) K ≡ b → Passes K s t (frameHearing r s fecf)
-            go true same =
-                let h = x .«primary_header» in
-                let w = h .«vc_frame_count_len» in
-                let n = h .«vc_frame_count» in
-                by-reading (done x) e
-                (subst (λ (k : Channel). Passes K s t (withFrame x (hearing r k w n))) (sym (same-one (channelOf h) K same))
-                (misfit-ways (λ (q : Kept Arrival). Passes K s t (withFrame x q)) w n odd (λ j vs. record { nothing = refl; stands = at })))
-            go false other = passes-elsewhere other
+          pub roomy-elsewhere : Roomy frameHearing K r (hears s fecf)
+          roomy-elsewhere y d same =
+              let z : x ≡ y = done-one (sym e ∙ d) in
+              absurd (true-false same (ap (λ (v : TransferFrame). sameChannel (channelOf (v .«primary_header»)) K) (sym z) ∙ other))
+
+        -- a frame of the channel in another width: whatever holds of a refusal that is not for a total
+        module _ (odd : x .«primary_header» .«vc_frame_count_len» ≡ widthAt t → ⊥) where
+          misfit : (P : Kept FrameArrival → Type 0) → sameChannel (channelOf (x .«primary_header»)) K ≡ true
+              → ((j : ℕ) (vs : List ℕ) → j < 17 → P (keeping (refused j vs) r)) → P (frameHearing r s fecf)
+          misfit P same f =
+              let h = x .«primary_header» in
+              let w = h .«vc_frame_count_len» in
+              let n = h .«vc_frame_count» in
+              subst (λ (v : Outcome TransferFrame). P (taken r (andThen v (judgedFrame r)))) (sym e)
+              (subst (λ (k : Channel). P (taken r (withFrame x (judging r k w n)))) (sym (same-one (channelOf h) K same))
+              (misfit-ways (λ (o : Outcome (Arrival × Change)). P (taken r (withFrame x o))) w n odd f))
+
+          pub passes-misfit : Passes K s t (frameHearing r s fecf)
+          passes-misfit = go (sameChannel (channelOf (x .«primary_header»)) K) refl
+            where
+              go : (b : Bool) → sameChannel (channelOf (x .«primary_header»)) K ≡ b → Passes K s t (frameHearing r s fecf)
+              go true same = misfit (Passes K s t) same (λ j vs low. record { nothing = refl; stands = at })
+              go false other = passes-elsewhere other
+
+          pub roomy-misfit : Roomy frameHearing K r (hears s fecf)
+          roomy-misfit y d same =
+              let z : x ≡ y = done-one (sym e ∙ d) in
+              misfit (λ (q : Kept FrameArrival). answerOf q ≡ refused 17 [] → ⊥)
+              (ap (λ (v : TransferFrame). sameChannel (channelOf (v .«primary_header»)) K) z ∙ same)
+              (λ j vs low f. let g : j ≡ 17 = cc in omega arith)

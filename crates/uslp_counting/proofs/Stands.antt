@@ -4,19 +4,20 @@ use mathlib.Core.Bool.{true, false}
 use Prim.Native.Nat.{ℕ, _<_}
 use native.Mathlib.Omega.{arith}
 use lib.ListN.{length, length-set}
-use Rattle.uslp_kinds.specs.Outcome.{done}
+use Rattle.uslp_kinds.specs.Outcome.{Outcome, done}
 use Rattle.uslp_record.specs.Slots.{sameChannel, stateHolds, holds, isClosed, find, vacant, slotOf, stateAt, put}
 use Rattle.uslp_record.specs.Record.{Kept, keeping, opening, closing}
-use Rattle.uslp_record.specs.Judging.{hearing}
+use Rattle.uslp_record.specs.Judging.{judging, taken}
 use Rattle.uslp_record.specs.declared.Channel.{Channel}
 use Rattle.uslp_record.specs.declared.SlotState.{SlotState}
 use Rattle.uslp_record.specs.declared.SlotState.the-variants.{Closed, Opened, Heard}
 use Rattle.uslp_record.specs.declared.ChannelRecord.{ChannelRecord}
 use Rattle.uslp_record.specs.declared.Arrival.{Arrival}
+use Rattle.uslp_record.specs.declared.Change.{Change}
 use Rattle.uslp_record.proofs.Seek.{finds, vacates}
 use Rattle.uslp_counting.specs.History.{recordOf}
-use Rattle.uslp_counting.proofs.Slots.{true-false, same-self, holds-other, closed-holds, seek-passes, seek-set, seek-new, put-same, put-other}
-use Rattle.uslp_counting.proofs.Ways.{opening-ways, closing-ways, hearing-ways}
+use Rattle.uslp_record.proofs.Slots.{true-false, same-self, holds-other, closed-holds, seek-passes, seek-set, seek-new, put-same, put-other}
+use Rattle.uslp_record.proofs.Ways.{opening-ways, closing-ways, judging-ways}
 
 -- the channel K is in a slot, in the state t
 pub record Stands (K : Channel) (r : ChannelRecord) (t : SlotState) : Type 0 where
@@ -66,34 +67,34 @@ module _ (K : Channel) (r : ChannelRecord) (t : SlotState) (at : Stands K r t) w
     pub stands-opening : (w : ℕ) → Stands K (recordOf (opening r k w)) t
     stands-opening w =
         opening-ways r k (λ (q : Kept (Unit {0})). Stands K (recordOf q) t) w (λ j vs. at)
-        (λ none low.
-        stands-other (vacant (r .slots)) (Opened k w) low
-        (closed-holds K (stateAt r (vacant (r .slots))) (seek-passes isClosed vacant vacates (r .slots) (slotOf Closed) (omega (arith, at .eight)))) other)
+        (λ o.
+        stands-other (vacant (r .slots)) (Opened k w) (o .low)
+        (closed-holds K (stateAt r (vacant (r .slots))) (seek-passes isClosed vacant vacates (r .slots) (slotOf Closed) (omega (arith, at .eight, o .low)))) other)
 
     pub stands-closing : Stands K (recordOf (closing r k)) t
     stands-closing =
         closing-ways r k (λ (q : Kept (Unit {0})). Stands K (recordOf q) t) (λ j vs. at)
         (λ low. stands-other (find k (r .slots)) Closed low (elsewhere-holds low) refl)
 
-    pub stands-hearing : (w n : ℕ) → Stands K (recordOf (hearing r k w n)) t
-    stands-hearing w n =
-        hearing-ways r k (λ (q : Kept Arrival). Stands K (recordOf q) t) w n (λ j vs. at)
-        (λ low a u. stands-other (find k (r .slots)) (Heard k w u) low (elsewhere-holds low) other)
+    pub stands-judging : (w n : ℕ) → Stands K (recordOf (taken r (judging r k w n))) t
+    stands-judging w n =
+        judging-ways r k (λ (o : Outcome (Arrival × Change)). Stands K (recordOf (taken r o)) t) w n (λ j vs. at)
+        (λ d. stands-other (find k (r .slots)) _ (d .low) (elsewhere-holds (d .low)) other)
 
   -- this one is opened again
   pub stands-again : (w : ℕ) → Stands K (recordOf (opening r K w)) t
   stands-again w =
       opening-ways r K (λ (q : Kept (Unit {0})). Stands K (recordOf q) t) w (λ j vs. at)
-      (λ none low. absurd (omega (arith, none, at .there)))
+      (λ o. absurd (omega (arith, o .none, at .there)))
 
 -- opening a channel
 pub stands-opened : (K : Channel) (w : ℕ) (r₀ r : ChannelRecord) → length (r₀ .slots) ≡ 8 → opening r₀ K w ≡ keeping (done tt) r → Stands K r (Opened K w)
 stands-opened K w r₀ r long =
     opening-ways r₀ K (λ (q : Kept (Unit {0})). q ≡ keeping (done tt) r → Stands K r (Opened K w)) w
     (λ j vs e. let z : _≡_ {A = ℕ} 0 1 = cc in absurd (omega arith))
-    (λ none low e.
+    (λ o e.
     let i = vacant (r₀ .slots) in
     let new : put r₀ i (Opened K w) ≡ r = cc in
     subst (λ (q : ChannelRecord). Stands K q (Opened K w)) new
-    (stands-put K r₀ i (Opened K w) long low
-    (seek-new (holds K) (find K) (finds K) (r₀ .slots) i (slotOf (Opened K w)) (omega arith) (omega arith) (same-self K))))
+    (stands-put K r₀ i (Opened K w) long (o .low)
+    (seek-new (holds K) (find K) (finds K) (r₀ .slots) i (slotOf (Opened K w)) (omega (arith, o .none)) (omega (arith, o .low)) (same-self K))))

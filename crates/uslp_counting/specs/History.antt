@@ -14,9 +14,14 @@ use Rattle.uslp_record.specs.Slots.{sameChannel, find, stateAt}
 use Rattle.uslp_record.specs.Record.{Kept, keeping, opening, closing, missingOf}
 use Rattle.uslp_record.specs.declared.Channel.{Channel}
 use Rattle.uslp_record.specs.declared.ChannelRecord.{ChannelRecord}
-use Rattle.uslp_hearing.specs.Hearing.{channelOf, frameHearing}
+use Rattle.uslp_roundtrip.specs.Laid.{frameOf}
+use Rattle.uslp_hearing.specs.Hearing.{channelOf}
 use Rattle.uslp_hearing.specs.declared.FrameArrival.{FrameArrival}
 use Rattle.uslp_hearing.specs.declared.FrameArrival.the-variants.{New, Repeat, Late}
+
+-- a hearing: of a record, octets and a FECF choice, the answer and the record after it
+abbrev pub Hearer : Type 0
+Hearer = ChannelRecord → List ℕ → Bool → Kept FrameArrival
 
 -- a call of the console
 pub data Call : Type 0 where
@@ -30,42 +35,43 @@ recordOf (keeping o r) = r
 abbrev pub answerOf : {A : Type 0} → Kept A → Outcome A
 answerOf (keeping o r) = o
 
--- the record after a call, and after a history of them
-unfoldable pub after : ChannelRecord → Call → ChannelRecord
-after r (hears s fecf) = recordOf (frameHearing r s fecf)
-after r (opens k width) = recordOf (opening r k width)
-after r (closes k) = recordOf (closing r k)
-
-unfoldable pub run : ChannelRecord → List Call → ChannelRecord
-run r [] = r
-run r (c ∷ cs) = run (after r c) cs
-
--- a frame handed on: its gap, and its data
+-- a frame handed on: its gap, the frame with its headers and OCF, and its data
 abbrev pub Handing : Type 0
-Handing = ℕ × List ℕ
+Handing = ℕ × TransferFrame × List ℕ
 
--- what one hearing hands on for the channel K
+-- what one hearing of the octets s hands on for the channel K
 abbrev pub handing : Channel → List ℕ → Outcome FrameArrival → List Handing
-handing K s (done (New gap x)) = cond (sameChannel (channelOf (x .«primary_header»)) K) ((gap, contentsIn x s) ∷ []) []
+handing K s (done (New gap x)) = cond (sameChannel (channelOf (x .«primary_header»)) K) ((gap, x, contentsIn x s) ∷ []) []
 handing K s (done Repeat) = []
 handing K s (done Late) = []
 handing K s (refused k vs) = []
 
--- the frames that a history hands on for the channel K, in order
-unfoldable pub handed : Channel → ChannelRecord → List Call → List Handing
-handed K r [] = []
-handed K r (hears s fecf ∷ cs) = handing K s (answerOf (frameHearing r s fecf)) ++ handed K (recordOf (frameHearing r s fecf)) cs
-handed K r (opens k width ∷ cs) = handed K (after r (opens k width)) cs
-handed K r (closes k ∷ cs) = handed K (after r (closes k)) cs
+module _ (H : Hearer) (K : Channel) where
+  -- what a call hands on for the channel K, and the record after it
+  abbrev pub called : ChannelRecord → Call → List Handing × ChannelRecord
+  called r (hears s fecf) = (handing K s (answerOf (H r s fecf)), recordOf (H r s fecf))
+  called r (opens k width) = ([], recordOf (opening r k width))
+  called r (closes k) = ([], recordOf (closing r k))
 
--- no hearing of a frame of the channel K gets TOTAL_FULL
-unfoldable pub Unfilled : Channel → ChannelRecord → List Call → Type 0
-Unfilled K r [] = Unit {0}
-Unfilled K r (hears s fecf ∷ cs) =
-    ((x : TransferFrame) → frameReading s fecf ≡ done x → sameChannel (channelOf (x .«primary_header»)) K ≡ true → answerOf (frameHearing r s fecf) ≡ refused 17 [] → ⊥)
-    × Unfilled K (recordOf (frameHearing r s fecf)) cs
-Unfilled K r (opens k width ∷ cs) = Unfilled K (after r (opens k width)) cs
-Unfilled K r (closes k ∷ cs) = Unfilled K (after r (closes k)) cs
+  -- a call does not get TOTAL_FULL for a frame of the channel K
+  abbrev pub Roomy : ChannelRecord → Call → Type 0
+  Roomy r (hears s fecf) =
+      (x : TransferFrame) → frameReading s fecf ≡ done x → sameChannel (channelOf (x .«primary_header»)) K ≡ true → answerOf (H r s fecf) ≡ refused 17 [] → ⊥
+  Roomy r (opens k width) = Unit {0}
+  Roomy r (closes k) = Unit {0}
+
+  -- the same over a history of calls
+  unfoldable pub run : ChannelRecord → List Call → ChannelRecord
+  run r [] = r
+  run r (c ∷ cs) = run (called r c .1) cs
+
+  unfoldable pub handed : ChannelRecord → List Call → List Handing
+  handed r [] = []
+  handed r (c ∷ cs) = called r c .0 ++ handed (called r c .1) cs
+
+  unfoldable pub Unfilled : ChannelRecord → List Call → Type 0
+  Unfilled r [] = Unit {0}
+  Unfilled r (c ∷ cs) = Roomy r c × Unfilled (called r c .1) cs
 
 -- what the record has missing for the channel K
 abbrev pub missingFor : Channel → ChannelRecord → ℕ
@@ -112,22 +118,30 @@ module _ {K : Channel} {width : ℕ} {fecf : Bool} (S : Sender K width fecf) whe
   callOf (closed k o) = closes k
   callOf (again w) = opens K w
 
+  -- the frame sent at a place, handed on with this gap
+  abbrev pub handingAt : ℕ → ℕ → Handing
+  handingAt gap p = (gap, frameOf (S .header p) (S .field p) (S .contents p) (S .ocf p), S .contents p)
+
   -- frames handed on at these places, each with the gap to the one before
   unfoldable pub following : ℕ → List ℕ → List Handing
   following q [] = []
-  following q (p ∷ ps) = (p - suc q, S .contents p) ∷ following p ps
+  following q (p ∷ ps) = handingAt (p - suc q) p ∷ following p ps
 
   unfoldable pub handings : List ℕ → List Handing
   handings [] = []
-  handings (p ∷ ps) = (0, S .contents p) ∷ following p ps
+  handings (p ∷ ps) = handingAt 0 p ∷ following p ps
 
 -- the places that arrive, in order
-unfoldable pub places : {K : Channel} {width : ℕ} → List (Event K width) → List ℕ
-places [] = []
-places (arrives p behind ∷ es) = p ∷ places es
-places (damaged s f k vs e ∷ es) = places es
-places (elsewhere s f x e o ∷ es) = places es
-places (misfits s f x e o ∷ es) = places es
-places (opened k w o ∷ es) = places es
-places (closed k o ∷ es) = places es
-places (again w ∷ es) = places es
+module _ {K : Channel} {width : ℕ} where
+  abbrev pub placesOf : Event K width → List ℕ
+  placesOf (arrives p behind) = p ∷ []
+  placesOf (damaged s f k vs e) = []
+  placesOf (elsewhere s f x e o) = []
+  placesOf (misfits s f x e o) = []
+  placesOf (opened k w o) = []
+  placesOf (closed k o) = []
+  placesOf (again w) = []
+
+  unfoldable pub places : List (Event K width) → List ℕ
+  places [] = []
+  places (e ∷ es) = placesOf e ++ places es

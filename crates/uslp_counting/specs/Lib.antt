@@ -1,4 +1,4 @@
 pub mod Places
 pub mod History
-pub mod Once
+pub mod Demand
 pub mod Console
