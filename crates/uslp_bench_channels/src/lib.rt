@@ -14,9 +14,9 @@ use uslp_arguments::number;
 use uslp_arguments::octet_of;
 use uslp_hearing::FrameArrival;
 use uslp_hearing::FrameHeard;
+use uslp_kinds::DoneAnswer;
 use uslp_record::Channel;
 use uslp_record::ChannelRecord;
-use uslp_record::RecordAnswer;
 use uslp_record::SlotState;
 use uslp_record::StateAnswer;
 use uslp_record::TotalAnswer;
@@ -24,7 +24,7 @@ use uslp_record::Totals;
 use uslp_text::put_text;
 ghost use mathlib.Core.Path.{_≡_};
 ghost use mathlib.Core.List.{[], _∷_, _++_};
-ghost use Rattle.uslp_record.specs.Record.{paperDone};
+ghost use Rattle.uslp_kinds.specs.Answers.{paperDone};
 ghost use Rattle.uslp_hearing.specs.Channel.{paperFrameHeard};
 ghost use Rattle.uslp_text.specs.Text.{text, Told};
 ghost use Rattle.uslp_answers.specs.Texts.{fieldsText, answerText};
@@ -106,12 +106,12 @@ pub fn close(line: &[u8], rest: Rest, channels: ChannelRecord, out: &mut [u8]) -
     }
 }
 
-fn put_done(answer: RecordAnswer, out: &mut [u8]) -> usize
+fn put_done(answer: DoneAnswer, out: &mut [u8]) -> usize
     ensures { λ r. ⌜ Told (answerText (λ u. []) (paperDone answer)) 0 (now (out .entry)) r (now (out .exit)) ⌝ }
 {
     match answer {
-        RecordAnswer::Done => put_text(b"0", out, 0),
-        RecordAnswer::Refused(refusal) => put_refusal(refusal, out),
+        DoneAnswer::Done => put_text(b"0", out, 0),
+        DoneAnswer::Refused(refusal) => put_refusal(refusal, out),
     }
 }
 

@@ -1,31 +1,28 @@
 -- The promises of `uslp_record` settle each call, and shut out two tempting wrong answers of each function.
 use mathlib.Core.Path.{_≡_, refl, sym, ap, _∙_}
-use mathlib.Core.Bool.{true, false}
-use mathlib.Core.List.{List, [], _∷_}
+use mathlib.Core.Bool.{true}
 use Prim.Native.Nat.{ℕ, _^_}
 use native.Mathlib.Omega.{arith}
 use lib.ListN.{getD}
-use Rattle.uslp_kinds.specs.Outcome.{done, refused}
 use Rattle.uslp_kinds.proofs.Back.{back, one-to-one}
-use Rattle.uslp_kinds.specs.declared.Refusal.the-variants.{BadField, NotOpen, OtherWidth, TableFull, TotalFull}
+use Rattle.uslp_kinds.specs.declared.DoneAnswer.the-variants as done-answer
+use Rattle.uslp_kinds.specs.declared.Refusal.the-variants.{NotOpen, TotalFull}
 use Rattle.uslp_record.specs.Slots.{find, vacant, slotOf, put, emptyRecord}
-use Rattle.uslp_record.specs.Record.{Kept, keeping, paperDone, paperTotal, paperState, opening, closing, showing, missingIn, tooMuchIn, consoleTotal}
-use Rattle.uslp_record.specs.Hearing.{paperHeard, firstTotals, hearing}
-use Rattle.uslp_record.specs.declared.Channel.{Channel}
+use Rattle.uslp_record.specs.Record.{Kept, keeping, paperTotal, paperState, opening, closing, showing, missingIn, tooMuchIn, consoleTotal}
+use Rattle.uslp_record.specs.Hearing.{paperHeard, hearing}
 use Rattle.uslp_record.specs.declared.ChannelRecord.{ChannelRecord}
 use Rattle.uslp_record.specs.declared.SlotState.{SlotState}
 use Rattle.uslp_record.specs.declared.SlotState.the-variants.{Closed, Opened, Heard}
-use Rattle.uslp_record.specs.declared.RecordAnswer.the-variants as record-answer
 use Rattle.uslp_record.specs.declared.TotalAnswer.the-variants as total-answer
 use Rattle.uslp_record.specs.declared.StateAnswer.the-variants as state-answer
 use Rattle.uslp_record.specs.declared.Arrival.the-variants.{New, Repeat, Late}
 use Rattle.uslp_record.specs.declared.HearAnswer.the-variants as hear-answer
 use Rattle.uslp_record.specs.declared.Verdict.the-variants as verdict
-use Rattle.uslp_record.proofs.Back.{record-back, total-back, state-back, heard-back, keeping-one, verdict-one}
+use Rattle.uslp_record.proofs.Back.{total-back, state-back, heard-back, keeping-one, verdict-one}
 use Rattle.uslp_record.proofs as channels
 use Rattle.uslp_demands.specs.Promise.{Allows, Settles}
 use Rattle.uslp_demands.specs.Cases.{channel, lastHeard}
-use Rattle.uslp_demands.proofs.Alike.{alike}
+use Rattle.uslp_demands.proofs.Alike.{alike, done-alike}
 
 -- a channel open in the first slot, and not heard yet
 abbrev opened : ChannelRecord
@@ -53,28 +50,28 @@ pub new-opened : Allows channels.ChannelRecord.new.Kinds.ps channels.ChannelReco
 new-opened e = let d : Closed ≡ Opened channel 1 = sym (ap (λ (r : ChannelRecord). getD (r .slots) 0 (slotOf Closed) .state) e) in let z : _≡_ {A = ℕ} 0 1 = cc in omega arith
 
 pub open-channel-settles : Settles channels.ChannelRecord.open_channel.Kinds.ps channels.ChannelRecord.open_channel.Kinds.r channels.ChannelRecord.open_channel.Reads.Pre channels.ChannelRecord.open_channel.Reads.Learnt
-open-channel-settles = record { total = λ κs a. tt; same = λ κs a x y s t. let e = keeping-one (s ∙ sym t) in alike (λ i. record { answer = one-to-one paperDone (back (λ (u : Unit {0}). record-answer.Done) record-answer.Refused) record-back {x = x .0 .answer} {y = y .0 .answer} (e .0) i; next = e .1 i }) refl }
+open-channel-settles = record { total = λ κs a. tt; same = λ κs a x y s t. let e = keeping-one (s ∙ sym t) in alike (λ i. record { answer = done-alike {x = x .0 .answer} {y = y .0 .answer} (e .0) i; next = e .1 i }) refl }
 
 -- says done and opens nothing
-pub open-channel-idle : Allows channels.ChannelRecord.open_channel.Kinds.ps channels.ChannelRecord.open_channel.Kinds.r channels.ChannelRecord.open_channel.Reads.Learnt tt (emptyRecord, (channel, (1, tt))) (record { answer = record-answer.Done; next = emptyRecord }, (tt, (tt, (tt, tt)))) → ⊥
+pub open-channel-idle : Allows channels.ChannelRecord.open_channel.Kinds.ps channels.ChannelRecord.open_channel.Kinds.r channels.ChannelRecord.open_channel.Reads.Learnt tt (emptyRecord, (channel, (1, tt))) (record { answer = done-answer.Done; next = emptyRecord }, (tt, (tt, (tt, tt)))) → ⊥
 unfolding opening find vacant
 open-channel-idle e = let d : Closed ≡ Opened channel 1 = ap firstOf e in let z : _≡_ {A = ℕ} 0 1 = cc in omega arith
 
 -- takes width 0
-pub open-channel-width : Allows channels.ChannelRecord.open_channel.Kinds.ps channels.ChannelRecord.open_channel.Kinds.r channels.ChannelRecord.open_channel.Reads.Learnt tt (emptyRecord, (channel, (0, tt))) (record { answer = record-answer.Done; next = put emptyRecord 0 (Opened channel 0) }, (tt, (tt, (tt, tt)))) → ⊥
+pub open-channel-width : Allows channels.ChannelRecord.open_channel.Kinds.ps channels.ChannelRecord.open_channel.Kinds.r channels.ChannelRecord.open_channel.Reads.Learnt tt (emptyRecord, (channel, (0, tt))) (record { answer = done-answer.Done; next = put emptyRecord 0 (Opened channel 0) }, (tt, (tt, (tt, tt)))) → ⊥
 unfolding opening
 open-channel-width e = let d : Opened channel 0 ≡ Closed = ap firstOf e in let z : _≡_ {A = ℕ} 0 1 = cc in omega arith
 
 pub close-channel-settles : Settles channels.ChannelRecord.close_channel.Kinds.ps channels.ChannelRecord.close_channel.Kinds.r channels.ChannelRecord.close_channel.Reads.Pre channels.ChannelRecord.close_channel.Reads.Learnt
-close-channel-settles = record { total = λ κs a. tt; same = λ κs a x y s t. let e = keeping-one (s ∙ sym t) in alike (λ i. record { answer = one-to-one paperDone (back (λ (u : Unit {0}). record-answer.Done) record-answer.Refused) record-back {x = x .0 .answer} {y = y .0 .answer} (e .0) i; next = e .1 i }) refl }
+close-channel-settles = record { total = λ κs a. tt; same = λ κs a x y s t. let e = keeping-one (s ∙ sym t) in alike (λ i. record { answer = done-alike {x = x .0 .answer} {y = y .0 .answer} (e .0) i; next = e .1 i }) refl }
 
 -- says done and closes nothing
-pub close-channel-idle : Allows channels.ChannelRecord.close_channel.Kinds.ps channels.ChannelRecord.close_channel.Kinds.r channels.ChannelRecord.close_channel.Reads.Learnt tt (opened, (channel, tt)) (record { answer = record-answer.Done; next = opened }, (tt, (tt, tt))) → ⊥
+pub close-channel-idle : Allows channels.ChannelRecord.close_channel.Kinds.ps channels.ChannelRecord.close_channel.Kinds.r channels.ChannelRecord.close_channel.Reads.Learnt tt (opened, (channel, tt)) (record { answer = done-answer.Done; next = opened }, (tt, (tt, tt))) → ⊥
 unfolding closing find
 close-channel-idle e = let d : Opened channel 1 ≡ Closed = ap firstOf e in let z : _≡_ {A = ℕ} 0 1 = cc in omega arith
 
 -- says done of a channel that is not open
-pub close-channel-lax : Allows channels.ChannelRecord.close_channel.Kinds.ps channels.ChannelRecord.close_channel.Kinds.r channels.ChannelRecord.close_channel.Reads.Learnt tt (emptyRecord, (channel, tt)) (record { answer = record-answer.Done; next = emptyRecord }, (tt, (tt, tt))) → ⊥
+pub close-channel-lax : Allows channels.ChannelRecord.close_channel.Kinds.ps channels.ChannelRecord.close_channel.Kinds.r channels.ChannelRecord.close_channel.Reads.Learnt tt (emptyRecord, (channel, tt)) (record { answer = done-answer.Done; next = emptyRecord }, (tt, (tt, tt))) → ⊥
 unfolding closing find
 close-channel-lax e = let d = keeping-one e .0 in let z : _≡_ {A = ℕ} 0 1 = cc in omega arith
 

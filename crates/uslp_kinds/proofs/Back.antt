@@ -1,15 +1,16 @@
 -- An answer on paper loses nothing: it has a way back, so two answers that say the same on paper are one.
--- Assumes nothing.
 use mathlib.Core.Path.{_≡_, refl, ap, sym, _∙_}
 use Prim.Native.Nat.{ℕ}
 use mathlib.Core.List.{List, [], _∷_}
 use lib.ListN.{getD}
 use Rattle.uslp_kinds.specs.Outcome.{Outcome, done, refused, leaving}
 use Rattle.uslp_kinds.specs.Kinds.{ruleOf}
-use Rattle.uslp_kinds.specs.Answers.{sheet, refusal, paperLength, paperProtocol}
+use Rattle.uslp_kinds.specs.Answers.{sheet, paperDone, paperLength, paperProtocol}
 use Rattle.uslp_kinds.proofs.Cases.{rule-back}
 use Rattle.uslp_kinds.specs.declared.Refusal.{Refusal}
 use Rattle.uslp_kinds.specs.declared.Refusal.the-variants.{ShortSource, ShortTarget, Truncated, BadVersion, BadProtocol, BadChecksum, FrameTooShort, BadCount, BadPointer, BadField, OcfMissing, TooLong, NotOpen, OtherWidth, AlreadyOpen, TableFull, TotalFull}
+use Rattle.uslp_kinds.specs.declared.DoneAnswer.{DoneAnswer}
+use Rattle.uslp_kinds.specs.declared.DoneAnswer.the-variants as done-answer
 use Rattle.uslp_kinds.specs.declared.LengthAnswer.{LengthAnswer}
 use Rattle.uslp_kinds.specs.declared.LengthAnswer.the-variants as length-answer
 use Rattle.uslp_kinds.specs.declared.ProtocolIdAnswer.{ProtocolIdAnswer}
@@ -51,6 +52,10 @@ back D R (refused k vs) = R (refusalOf k vs)
 -- a function that has a way back is one-to-one
 pub one-to-one : {A B : Type 0} (out : A → B) (way : B → A) → ((x : A) → way (out x) ≡ x) → {x y : A} → out x ≡ out y → x ≡ y
 one-to-one out way same {x} {y} e = sym (same x) ∙ ap way e ∙ same y
+
+pub done-back : (r : DoneAnswer) → back (λ (u : Unit {0}). done-answer.Done) done-answer.Refused (paperDone r) ≡ r
+done-back done-answer.Done = refl
+done-back (done-answer.Refused r) = ap done-answer.Refused (refusal-back r)
 
 pub length-back : (r : LengthAnswer) → back length-answer.Done length-answer.Refused (paperLength r) ≡ r
 length-back (length-answer.Done n) = refl

@@ -1,4 +1,4 @@
--- Document 01's table of refusals, row by row, and what each answer on numbers and ids says on paper.
+-- Document 01's table of refusals, row by row, and what each answer that carries nothing, a number or an id says on paper.
 use Prim.Native.Nat.{ℕ}
 use mathlib.Core.List.{List, [], _∷_}
 use Rattle.uslp_kinds.specs.Outcome.{Outcome, done, refused}
@@ -6,6 +6,8 @@ use Rattle.uslp_kinds.specs.Kinds.{ruleNumber}
 use Rattle.uslp_kinds.specs.declared.UslpProtocolId.{UslpProtocolId}
 use Rattle.uslp_kinds.specs.declared.Refusal.{Refusal}
 use Rattle.uslp_kinds.specs.declared.Refusal.the-variants.{ShortSource, ShortTarget, Truncated, BadVersion, BadProtocol, BadChecksum, FrameTooShort, BadCount, BadPointer, BadField, OcfMissing, TooLong, NotOpen, OtherWidth, AlreadyOpen, TableFull, TotalFull}
+use Rattle.uslp_kinds.specs.declared.DoneAnswer.{DoneAnswer}
+use Rattle.uslp_kinds.specs.declared.DoneAnswer.the-variants as done-answer
 use Rattle.uslp_kinds.specs.declared.LengthAnswer.{LengthAnswer}
 use Rattle.uslp_kinds.specs.declared.LengthAnswer.the-variants as length-answer
 use Rattle.uslp_kinds.specs.declared.ProtocolIdAnswer.{ProtocolIdAnswer}
@@ -34,6 +36,10 @@ sheet TotalFull = (17, [])
 -- a refusal as the outcome of a call for any result
 abbrev pub refusal : {A : Type 0} → Refusal → Outcome A
 refusal r = refused (sheet r .0) (sheet r .1)
+
+abbrev pub paperDone : DoneAnswer → Outcome (Unit {0})
+paperDone done-answer.Done = done tt
+paperDone (done-answer.Refused r) = refusal r
 
 abbrev pub paperLength : LengthAnswer → Outcome ℕ
 paperLength (length-answer.Done n) = done n

@@ -1,4 +1,4 @@
-// The refusals of the library, the kinds of field that a frame carries, and the answers on numbers and ids.
+// The refusals of the library, the kinds of field that a frame carries, and the answers that carry nothing, a number or an id.
 ghost use mathlib.Core.Path.{_≡_};
 ghost use Rattle.uslp_kinds.specs.Kinds.{sourceOrDestNumber, sourceOrDestOf, bypassNumber, bypassOf, commandNumber, commandOf, ruleNumber, ruleOf, fixedLength, protocolNumber, protocolOf};
 ghost use Rattle.uslp_kinds.specs.Answers.{sheet, paperProtocol};
@@ -73,6 +73,12 @@ pub enum Refusal {
     AlreadyOpen,
     TableFull,
     TotalFull,
+}
+
+// For a call that only leaves something changed.
+pub enum DoneAnswer {
+    Done,
+    Refused(Refusal),
 }
 
 // How many octets were written, or are needed.

@@ -1,8 +1,6 @@
 -- An answer of a call on the record has a way back from paper, and what a call leaves is one answer with one record.
--- Assumes nothing.
 use mathlib.Core.Path.{_≡_, refl, ap, sym, _∙_}
 use Prim.Native.Nat.{ℕ}
-use mathlib.Core.List.{List}
 use native.Mathlib.Omega.{arith}
 use Rattle.uslp_kinds.specs.Outcome.{Outcome, done, refused}
 use Rattle.uslp_kinds.specs.Answers.{refusal}
@@ -11,26 +9,19 @@ use Rattle.uslp_kinds.specs.declared.Refusal.the-variants.{Truncated}
 use Rattle.uslp_kinds.proofs.Outcomes.{done-one}
 use Rattle.uslp_kinds.proofs.Back.{back, refusalOf, refusal-back}
 use Rattle.uslp_record.specs.Slots.{stateAt}
-use Rattle.uslp_record.specs.Record.{keeping, paperDone, paperTotal, paperState}
+use Rattle.uslp_record.specs.Record.{keeping, paperTotal, paperState}
 use Rattle.uslp_record.specs.Hearing.{paperHeard, totalsAt, judgedIn, SlotJudged}
 use Rattle.uslp_record.specs.declared.Channel.{Channel}
-use Rattle.uslp_record.specs.declared.SlotState.{SlotState}
 use Rattle.uslp_record.specs.declared.SlotState.the-variants.{Heard}
 use Rattle.uslp_record.specs.declared.Verdict.{Verdict}
 use Rattle.uslp_record.specs.declared.Verdict.the-variants as verdict
 use Rattle.uslp_record.specs.declared.ChannelRecord.{ChannelRecord}
-use Rattle.uslp_record.specs.declared.RecordAnswer.{RecordAnswer}
-use Rattle.uslp_record.specs.declared.RecordAnswer.the-variants as record-answer
 use Rattle.uslp_record.specs.declared.StateAnswer.{StateAnswer}
 use Rattle.uslp_record.specs.declared.StateAnswer.the-variants as state-answer
 use Rattle.uslp_record.specs.declared.TotalAnswer.{TotalAnswer}
 use Rattle.uslp_record.specs.declared.TotalAnswer.the-variants as total-answer
 use Rattle.uslp_record.specs.declared.HearAnswer.{HearAnswer}
 use Rattle.uslp_record.specs.declared.HearAnswer.the-variants as hear-answer
-
-pub record-back : (r : RecordAnswer) → back (λ (u : Unit {0}). record-answer.Done) record-answer.Refused (paperDone r) ≡ r
-record-back record-answer.Done = refl
-record-back (record-answer.Refused r) = ap record-answer.Refused (refusal-back r)
 
 pub total-back : (r : TotalAnswer) → back total-answer.Done total-answer.Refused (paperTotal r) ≡ r
 total-back (total-answer.Done n) = refl

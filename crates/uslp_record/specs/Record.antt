@@ -1,19 +1,16 @@
 -- Opening, closing and asking: what each call answers and the record that it leaves, in the order of document 01.
 use Prim.Native.Nat.{ℕ, _+_, _-_, _^_}
-use mathlib.Core.Bool.{Bool, true, false, cond, _||_}
+use mathlib.Core.Bool.{Bool, false, _||_}
 use mathlib.Core.List.{List, [], _∷_}
 use lib.Dec.{eqb, leb, ltb}
 use Rattle.uslp_kinds.specs.Outcome.{Outcome, done, refused, firstOf}
 use Rattle.uslp_kinds.specs.Answers.{refusal}
 use Rattle.uslp_record.specs.Slots.{find, vacant, stateAt, put}
 use Rattle.uslp_record.specs.declared.Channel.{Channel}
-use Rattle.uslp_record.specs.declared.Totals.{Totals}
 use Rattle.uslp_record.specs.declared.SlotState.{SlotState}
 use Rattle.uslp_record.specs.declared.SlotState.the-variants.{Closed, Opened, Heard}
 use Rattle.uslp_record.specs.declared.Slot.{Slot}
 use Rattle.uslp_record.specs.declared.ChannelRecord.{ChannelRecord}
-use Rattle.uslp_record.specs.declared.RecordAnswer.{RecordAnswer}
-use Rattle.uslp_record.specs.declared.RecordAnswer.the-variants as record-answer
 use Rattle.uslp_record.specs.declared.StateAnswer.{StateAnswer}
 use Rattle.uslp_record.specs.declared.StateAnswer.the-variants as state-answer
 use Rattle.uslp_record.specs.declared.TotalAnswer.{TotalAnswer}
@@ -27,10 +24,6 @@ pub data Kept (A : Type 0) : Type 0 where
 abbrev pub kept : {A : Type 0} → Outcome A → ChannelRecord → ChannelRecord → Kept A
 kept (done x) new found = keeping (done x) new
 kept (refused k vs) new found = keeping (refused k vs) found
-
-abbrev pub paperDone : RecordAnswer → Outcome (Unit {0})
-paperDone record-answer.Done = done tt
-paperDone (record-answer.Refused r) = refusal r
 
 abbrev pub paperTotal : TotalAnswer → Outcome ℕ
 paperTotal (total-answer.Done n) = done n

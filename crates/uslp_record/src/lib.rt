@@ -1,8 +1,10 @@
 // The channel record on numbers: eight slots by value, and what each call makes of them.
+use uslp_kinds::DoneAnswer;
 use uslp_kinds::Refusal;
 ghost use mathlib.Core.Path.{_≡_};
+ghost use Rattle.uslp_kinds.specs.Answers.{paperDone};
 ghost use Rattle.uslp_record.specs.Slots.{sameChannel, stateHolds, stateClosed, find, vacant, put, emptyRecord};
-ghost use Rattle.uslp_record.specs.Record.{keeping, paperDone, paperTotal, missingOf, opening, closing, consoleTotal, paperState, showing};
+ghost use Rattle.uslp_record.specs.Record.{keeping, paperTotal, missingOf, opening, closing, consoleTotal, paperState, showing};
 
 mod counting;
 
@@ -42,14 +44,9 @@ pub struct ChannelRecord {
     pub slots: [Slot; 8],
 }
 
-pub enum RecordAnswer {
-    Done,
-    Refused(Refusal),
-}
-
 // An answer, and the record after the call.
 pub struct Recorded {
-    pub answer: RecordAnswer,
+    pub answer: DoneAnswer,
     pub next: ChannelRecord,
 }
 
@@ -124,7 +121,7 @@ impl ChannelRecord {
             return refused(Refusal::TableFull, self);
         }
         Recorded {
-            answer: RecordAnswer::Done,
+            answer: DoneAnswer::Done,
             next: replaced(self, at, SlotState::Opened { channel, width }),
         }
     }
@@ -138,7 +135,7 @@ impl ChannelRecord {
             return refused(Refusal::NotOpen, self);
         }
         Recorded {
-            answer: RecordAnswer::Done,
+            answer: DoneAnswer::Done,
             next: replaced(self, at, SlotState::Closed),
         }
     }
@@ -290,10 +287,10 @@ fn missing_of(state: SlotState) -> u64
 }
 
 fn refused(refusal: Refusal, channels: ChannelRecord) -> Recorded
-    ensures { λ r. ⌜ (r .answer ≡ RecordAnswer.Refused refusal) × (r .next ≡ channels) ⌝ }
+    ensures { λ r. ⌜ (r .answer ≡ DoneAnswer.Refused refusal) × (r .next ≡ channels) ⌝ }
 {
     Recorded {
-        answer: RecordAnswer::Refused(refusal),
+        answer: DoneAnswer::Refused(refusal),
         next: channels,
     }
 }

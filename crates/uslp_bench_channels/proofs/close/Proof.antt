@@ -1,7 +1,6 @@
 -- `uslp_bench_channels::close` meets its contract: words that fit are a closing, and the others are told.
--- Assumes nothing.
 use mathlib.Core.List.{[]}
-use Rattle.uslp_record.specs.Record.{paperDone}
+use Rattle.uslp_kinds.specs.Answers.{paperDone}
 use Rattle.uslp_bench_channels.proofs.Laws.{replied-kept, replied-trouble, replied-fit, close-made}
 use borrow.Author.Needs.{needs}
 use Rattle.uslp_bench_channels.proofs.close.Statement.{statement}

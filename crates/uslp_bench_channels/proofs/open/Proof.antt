@@ -1,8 +1,7 @@
 -- `uslp_bench_channels::open` meets its contract: words that fit are an opening, and the others are told.
--- Assumes nothing.
 use mathlib.Core.Path.{refl}
 use mathlib.Core.List.{[]}
-use Rattle.uslp_record.specs.Record.{paperDone}
+use Rattle.uslp_kinds.specs.Answers.{paperDone}
 use Rattle.uslp_bench_channels.proofs.Laws.{replied-kept, replied-trouble, replied-fit, open-made}
 use borrow.Author.Needs.{needs}
 use Rattle.uslp_bench_channels.proofs.open.Statement.{statement}

@@ -1,16 +1,15 @@
 -- `uslp_bench_channels::put_done` meets its contract: 0, or the refusal.
--- Assumes nothing.
 use mathlib.Core.List.{List, []}
 use Prim.Native.Nat.{ℕ}
-use Rattle.uslp_record.specs.Record.{paperDone}
-use Rattle.uslp_record.specs.declared.RecordAnswer.{RecordAnswer}
+use Rattle.uslp_kinds.specs.Answers.{paperDone}
+use Rattle.uslp_kinds.specs.declared.DoneAnswer.{DoneAnswer}
 use Rattle.uslp_answers.specs.Texts.{answerText}
 use Rattle.uslp_bench_channels.proofs.Laws.{told-of}
 use borrow.Author.Needs.{needs}
 use Rattle.uslp_bench_channels.proofs.put_done.Statement.{statement}
 use Rattle.uslp_bench_channels.proofs.put_done.Tie as tie
 
-abbrev doneText : RecordAnswer → List ℕ
+abbrev doneText : DoneAnswer → List ℕ
 doneText a = answerText (λ u. []) (paperDone a)
 
 enum-told : tie.Need-enum-told

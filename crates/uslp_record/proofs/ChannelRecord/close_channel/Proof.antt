@@ -1,7 +1,7 @@
--- Each way through closing is a law of `Calls`. Assumes nothing.
+-- Each way through closing is a law of `Calls`.
 use mathlib.Core.Path.{refl, _∙_, ap}
 use native.Mathlib.Omega.{arith}
-use Rattle.uslp_record.specs.Record.{paperDone}
+use Rattle.uslp_kinds.specs.Answers.{paperDone}
 use Rattle.uslp_record.proofs.Calls.{joined, closing-none, closing-done}
 use borrow.Author.Needs.{needs}
 use Rattle.uslp_record.proofs.ChannelRecord.close_channel.Statement.{statement}

@@ -1,7 +1,7 @@
--- Each way through opening is a law of `Calls`. Assumes nothing.
+-- Each way through opening is a law of `Calls`.
 use mathlib.Core.Path.{refl, _∙_, ap}
 use native.Mathlib.Omega.{arith}
-use Rattle.uslp_record.specs.Record.{paperDone}
+use Rattle.uslp_kinds.specs.Answers.{paperDone}
 use Rattle.uslp_record.proofs.Calls.{joined, opening-channel, opening-width-zero, opening-width-long, opening-twice, opening-full, opening-done}
 use borrow.Author.Needs.{needs}
 use Rattle.uslp_record.proofs.ChannelRecord.open_channel.Statement.{statement}
