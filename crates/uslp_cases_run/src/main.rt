@@ -1,8 +1,5 @@
 // Runs the cases that are not proved as theorems, and prints what each answers: the refusal's number, or 0.
 use uslp_data_field_header::TransferFrameDataFieldHeader;
-use uslp_writer::TransferFrameCreator;
-use uslp_primary_header::HeaderAnswer;
-use uslp_primary_header::PrimaryHeader;
 use uslp_kinds::BypassSequenceControlFlag;
 use uslp_kinds::ConstructionRule;
 use uslp_kinds::FhpOrLvo;
@@ -11,8 +8,11 @@ use uslp_kinds::OperationalControlField;
 use uslp_kinds::ProtocolControlCommandFlag;
 use uslp_kinds::SourceOrDestField;
 use uslp_kinds::UslpProtocolId;
+use uslp_primary_header::HeaderAnswer;
+use uslp_primary_header::PrimaryHeader;
 use uslp_reader::FrameAnswer;
 use uslp_reader::TransferFrame;
+use uslp_writer::TransferFrameCreator;
 
 fn main() {
     let b1 = [
@@ -123,7 +123,7 @@ fn octet(value: u8) {
 }
 
 fn count(what: &[u8], value: u64) {
-    match header().set_vc_frame_count(7, value) {
+    match header().with_vc_frame_count(7, value) {
         HeaderAnswer::Done(_) => {
             say(what, 0);
         }

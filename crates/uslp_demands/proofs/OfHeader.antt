@@ -10,7 +10,7 @@ use Rattle.uslp_kinds.proofs.Outcomes.{done-one}
 use Rattle.uslp_kinds.specs.declared.SourceOrDestField.the-variants.{Source, Dest}
 use Rattle.uslp_kinds.specs.declared.BypassSequenceControlFlag.the-variants.{SequenceControlledQoS}
 use Rattle.uslp_kinds.specs.declared.ProtocolControlCommandFlag.the-variants.{TfdfContainsUserData}
-use Rattle.uslp_kinds.specs.declared.Refusal.the-variants.{ShortSource, ShortTarget, Truncated, BadVersion, BadCount, BadField, TooLong}
+use Rattle.uslp_kinds.specs.declared.Refusal.the-variants.{ShortSource, ShortTarget, BadVersion, BadCount, BadField, TooLong}
 use Rattle.uslp_kinds.specs.declared.LengthAnswer.the-variants as length-answer
 use Rattle.uslp_primary_header.specs.Header.{paperHeader, headerMaking, headerChecking, countSetting, lengthSetting, withCount, withLength, headerReading, headerWriting}
 use Rattle.uslp_primary_header.specs.declared.PrimaryHeader.{PrimaryHeader}
@@ -48,18 +48,18 @@ pub new-lax : Allows header.PrimaryHeader.new.Kinds.ps header.PrimaryHeader.new.
 unfolding headerMaking
 new-lax e = let z : _≡_ {A = ℕ} 0 1 = cc in omega arith
 
-pub set-vc-frame-count-settles : Settles header.PrimaryHeader.set_vc_frame_count.Kinds.ps header.PrimaryHeader.set_vc_frame_count.Kinds.r header.PrimaryHeader.set_vc_frame_count.Reads.Pre header.PrimaryHeader.set_vc_frame_count.Reads.Learnt
-set-vc-frame-count-settles = record { total = λ κs a. tt; same = λ κs a x y s t. alike (one-to-one paperHeader (back header-answer.Done header-answer.Refused) header-one (s ∙ sym t)) refl }
+pub with-vc-frame-count-settles : Settles header.PrimaryHeader.with_vc_frame_count.Kinds.ps header.PrimaryHeader.with_vc_frame_count.Kinds.r header.PrimaryHeader.with_vc_frame_count.Reads.Pre header.PrimaryHeader.with_vc_frame_count.Reads.Learnt
+with-vc-frame-count-settles = record { total = λ κs a. tt; same = λ κs a x y s t. alike (one-to-one paperHeader (back header-answer.Done header-answer.Refused) header-one (s ∙ sym t)) refl }
 
 -- takes 256 to the width itself
-pub set-vc-frame-count-bound : Allows header.PrimaryHeader.set_vc_frame_count.Kinds.ps header.PrimaryHeader.set_vc_frame_count.Kinds.r header.PrimaryHeader.set_vc_frame_count.Reads.Learnt tt (some, (1, (256, tt))) (header-answer.Done high, (tt, (tt, (tt, tt)))) → ⊥
+pub with-vc-frame-count-bound : Allows header.PrimaryHeader.with_vc_frame_count.Kinds.ps header.PrimaryHeader.with_vc_frame_count.Kinds.r header.PrimaryHeader.with_vc_frame_count.Reads.Learnt tt (some, (1, (256, tt))) (header-answer.Done high, (tt, (tt, (tt, tt)))) → ⊥
 unfolding countSetting
-set-vc-frame-count-bound e = let z : _≡_ {A = ℕ} 0 1 = cc in omega arith
+with-vc-frame-count-bound e = let z : _≡_ {A = ℕ} 0 1 = cc in omega arith
 
 -- judges the channel too
-pub set-vc-frame-count-channel : Allows header.PrimaryHeader.set_vc_frame_count.Kinds.ps header.PrimaryHeader.set_vc_frame_count.Kinds.r header.PrimaryHeader.set_vc_frame_count.Reads.Learnt tt (record { «spacecraft_id» = 0; «source_or_dest_field» = Dest; «vc_id» = 200; «map_id» = 3; «frame_len_field» = 10; «sequence_control_flag» = SequenceControlledQoS; «protocol_control_command_flag» = TfdfContainsUserData; «ocf_flag» = false; «vc_frame_count_len» = 1; «vc_frame_count» = 7 }, (1, (7, tt))) (header-answer.Refused BadField, (tt, (tt, (tt, tt)))) → ⊥
+pub with-vc-frame-count-channel : Allows header.PrimaryHeader.with_vc_frame_count.Kinds.ps header.PrimaryHeader.with_vc_frame_count.Kinds.r header.PrimaryHeader.with_vc_frame_count.Reads.Learnt tt (record { «spacecraft_id» = 0; «source_or_dest_field» = Dest; «vc_id» = 200; «map_id» = 3; «frame_len_field» = 10; «sequence_control_flag» = SequenceControlledQoS; «protocol_control_command_flag» = TfdfContainsUserData; «ocf_flag» = false; «vc_frame_count_len» = 1; «vc_frame_count» = 7 }, (1, (7, tt))) (header-answer.Refused BadField, (tt, (tt, (tt, tt)))) → ⊥
 unfolding countSetting
-set-vc-frame-count-channel e = let z : _≡_ {A = ℕ} 0 1 = cc in omega arith
+with-vc-frame-count-channel e = let z : _≡_ {A = ℕ} 0 1 = cc in omega arith
 
 pub with-frame-len-settles : Settles header.PrimaryHeader.with_frame_len.Kinds.ps header.PrimaryHeader.with_frame_len.Kinds.r header.PrimaryHeader.with_frame_len.Reads.Pre header.PrimaryHeader.with_frame_len.Reads.Learnt
 with-frame-len-settles = record { total = λ κs a. tt; same = λ κs a x y s t. alike (one-to-one paperHeader (back header-answer.Done header-answer.Refused) header-one (s ∙ sym t)) refl }

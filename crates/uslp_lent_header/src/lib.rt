@@ -1,7 +1,7 @@
 // Setters over a header lent for writing: thin, each stores what a covered function on the header by value decided.
+use uslp_kinds::Refusal;
 use uslp_primary_header::HeaderAnswer;
 use uslp_primary_header::PrimaryHeader;
-use uslp_kinds::Refusal;
 ghost use mathlib.Core.Path.{_≡_};
 ghost use Rattle.uslp_primary_header.specs.Header.{paperHeader, countSetting, lengthSetting};
 ghost use Rattle.uslp_lent_header.specs.Setting.{headerLeft, headerOff, paperSet};
@@ -42,7 +42,7 @@ pub fn decide_frame_len(header: PrimaryHeader, frame_len: usize) -> Decided
 pub fn decide_vc_frame_count(header: PrimaryHeader, count_len: u8, count: u64) -> Decided
     ensures { λ r. ⌜ (r .header ≡ headerLeft header (countSetting header «count_len» count)) × (paperSet (r .answer) ≡ headerOff (countSetting header «count_len» count)) ⌝ }
 {
-    settle(header, header.set_vc_frame_count(count_len, count))
+    settle(header, header.with_vc_frame_count(count_len, count))
 }
 
 // Refuses TOO_LONG.

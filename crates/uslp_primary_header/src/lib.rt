@@ -66,7 +66,7 @@ impl PrimaryHeader {
     }
 
     // The header with this count. Refuses BAD_FIELD for the width, then BAD_COUNT.
-    pub fn set_vc_frame_count(self, count_len: u8, count: u64) -> HeaderAnswer
+    pub fn with_vc_frame_count(self, count_len: u8, count: u64) -> HeaderAnswer
         ensures { λ r. ⌜ paperHeader r ≡ countSetting self «count_len» count ⌝ }
     {
         if count_len > 7 {
