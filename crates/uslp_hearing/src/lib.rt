@@ -1,6 +1,6 @@
 // Hearing a frame: it is read first, then counted; NEW hands its data on.
-use uslp_primary_header::PrimaryHeader;
 use uslp_kinds::Refusal;
+use uslp_primary_header::PrimaryHeader;
 use uslp_reader::FrameAnswer;
 use uslp_reader::TransferFrame;
 use uslp_record::Arrival;

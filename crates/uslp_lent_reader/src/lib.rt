@@ -1,10 +1,10 @@
 // A reader that keeps the lent octets beside what was found in them: thin, each function hands both fields to `parts`.
 use uslp_data_field_header::DataFieldHeaderAnswer;
-use uslp_primary_header::HeaderAnswer;
 use uslp_kinds::LengthAnswer;
 use uslp_kinds::OperationalControlField;
 use uslp_kinds::Refusal;
 use uslp_kinds::SourceOrDestField;
+use uslp_primary_header::HeaderAnswer;
 use uslp_reader::FrameAnswer;
 ghost use mathlib.Core.Path.{_≡_};
 ghost use lib.ListN.{length};

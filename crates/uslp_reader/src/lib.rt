@@ -2,13 +2,13 @@
 use uslp_checksum::checksum;
 use uslp_data_field_header::DataFieldHeaderAnswer;
 use uslp_data_field_header::TransferFrameDataFieldHeader;
-use uslp_primary_header::HeaderAnswer;
-use uslp_primary_header::PrimaryHeader;
 use uslp_kinds::OperationalControlField;
 use uslp_kinds::Refusal;
 use uslp_kinds::SourceOrDestField;
 use uslp_octets::be_u16;
 use uslp_octets::be_u32;
+use uslp_primary_header::HeaderAnswer;
+use uslp_primary_header::PrimaryHeader;
 ghost use mathlib.Core.Path.{_≡_};
 ghost use Prim.Native.Nat.{_+_, _≤_};
 ghost use mathlib.Core.Bool.{cond};

@@ -1,11 +1,11 @@
 // The two frame writers. Headers, OCF and FECF choice stand in a value; data and buffer are given to the writing call.
 use uslp_data_field_header::DataFieldHeaderAnswer;
 use uslp_data_field_header::TransferFrameDataFieldHeader;
-use uslp_primary_header::HeaderAnswer;
-use uslp_primary_header::PrimaryHeader;
 use uslp_kinds::LengthAnswer;
 use uslp_kinds::OperationalControlField;
 use uslp_kinds::Refusal;
+use uslp_primary_header::HeaderAnswer;
+use uslp_primary_header::PrimaryHeader;
 ghost use mathlib.Core.Path.{_≡_};
 ghost use Rattle.uslp_kinds.specs.Outcome.{done};
 ghost use Rattle.uslp_kinds.specs.Answers.{paperLength};
