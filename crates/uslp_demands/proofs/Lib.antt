@@ -1,4 +1,5 @@
 pub mod Alike
+pub mod Facts
 pub mod OfOctets
 pub mod OfChecksum
 pub mod OfKinds
@@ -9,6 +10,8 @@ pub mod OfFrame
 pub mod OfReader
 pub mod OfRecord
 pub mod OfChannel
+pub mod OfLentHeader
+pub mod OfLentReader
 pub mod CasesHold
 pub mod Demand1
 pub mod Wrong

@@ -1,3 +1,4 @@
 pub mod Promise
+pub mod Clause
 pub mod Samples
 pub mod Cases

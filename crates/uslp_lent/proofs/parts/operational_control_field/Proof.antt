@@ -1,0 +1,31 @@
+-- `parts::operational_control_field` meets its contract: each arm is one case of `ofFrame`.
+use Rattle.uslp_lent.proofs.Arms.{done-arm, refused-arm}
+use Rattle.uslp_reader.specs.declared.TransferFrame.{TransferFrame}
+use borrow.Author.Needs.{needs}
+use Rattle.uslp_lent.proofs.parts.operational_control_field.Statement.{statement}
+use Rattle.uslp_lent.proofs.parts.operational_control_field.Tie as tie
+
+enum-known-answer : tie.Need-enum-known-answer
+enum-known-answer c = search needs
+
+operational-control-field-requires : tie.Need-operational-control-field-requires
+operational-control-field-requires c κs = search needs
+
+enum-known-answer-2 : tie.Need-enum-known-answer-2
+enum-known-answer-2 c = search needs
+
+returns : tie.Need-returns
+returns c = done-arm (λ (x : TransferFrame). x .«operational_control_field») _ _ _ (c .before .before .answer .given .1) (c .operational-control-field .ensures)
+
+returns-2 : tie.Need-returns-2
+returns-2 c = refused-arm (λ (x : TransferFrame). x .«operational_control_field») _ _ (c .before .answer2 .given .1)
+
+pub operational-control-field-spec : {M : Type 1} → statement M
+operational-control-field-spec =
+    tie.close
+    (tie.spec
+    enum-known-answer
+    operational-control-field-requires
+    enum-known-answer-2
+    returns
+    returns-2)

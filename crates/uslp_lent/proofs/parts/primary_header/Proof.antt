@@ -1,0 +1,26 @@
+-- `parts::primary_header` meets its contract: each arm is one case of `ofFrame`.
+use Rattle.uslp_lent.proofs.Arms.{done-arm, refused-arm}
+use Rattle.uslp_reader.specs.declared.TransferFrame.{TransferFrame}
+use borrow.Author.Needs.{needs}
+use Rattle.uslp_lent.proofs.parts.primary_header.Statement.{statement}
+use Rattle.uslp_lent.proofs.parts.primary_header.Tie as tie
+
+enum-known-answer : tie.Need-enum-known-answer
+enum-known-answer c = search needs
+
+primary-header-requires : tie.Need-primary-header-requires
+primary-header-requires c κs = search needs
+
+enum-known-answer-2 : tie.Need-enum-known-answer-2
+enum-known-answer-2 c = search needs
+
+returns : tie.Need-returns
+returns c = done-arm (λ (x : TransferFrame). x .«primary_header») _ _ _ (c .before .before .answer .given .1) (c .primary-header .ensures)
+
+returns-2 : tie.Need-returns-2
+returns-2 c = refused-arm (λ (x : TransferFrame). x .«primary_header») _ _ (c .before .answer2 .given .1)
+
+pub primary-header-spec : {M : Type 1} → statement M
+primary-header-spec =
+    tie.close
+    (tie.spec enum-known-answer primary-header-requires enum-known-answer-2 returns returns-2)

@@ -1,0 +1,28 @@
+-- `settle` meets its contract: each arm knows which outcome it was passed.
+use mathlib.Core.Path.{sym, ap}
+use Rattle.uslp_primary_header.specs.Header.{paperHeader}
+use Rattle.uslp_lent.specs.Setting.{headerLeft, headerOff}
+use borrow.Author.Needs.{needs}
+use Rattle.uslp_lent.proofs.setters.settle.Statement.{statement}
+use Rattle.uslp_lent.proofs.setters.settle.Tie as tie
+
+enum-known-outcome : tie.Need-enum-known-outcome
+enum-known-outcome c = search needs
+
+enum-known-outcome-2 : tie.Need-enum-known-outcome-2
+enum-known-outcome-2 c = search needs
+
+returns : tie.Need-returns
+returns c = (
+  sym (ap (λ o. headerLeft (c .before .before .before .args .header) (paperHeader o)) (c .before .outcome .given .1)),
+  sym (ap (λ o. headerOff (paperHeader o)) (c .before .outcome .given .1)),
+)
+
+returns-2 : tie.Need-returns-2
+returns-2 c = (
+  sym (ap (λ o. headerLeft (c .before .before .before .args .header) (paperHeader o)) (c .before .outcome2 .given .1)),
+  sym (ap (λ o. headerOff (paperHeader o)) (c .before .outcome2 .given .1)),
+)
+
+pub settle-spec : {M : Type 1} → statement M
+settle-spec = tie.close (tie.spec enum-known-outcome enum-known-outcome-2 returns returns-2)

@@ -1,3 +1,0 @@
-pub mod Facts
-pub mod OfHeader
-pub mod OfReader

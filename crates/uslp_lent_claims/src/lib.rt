@@ -1,1 +1,0 @@
-// What the promises of the lent forms settle. No function.

@@ -1,4 +1,0 @@
-pub mod Param
-pub mod Lent
-pub mod Held
-pub mod Made
