@@ -16,7 +16,7 @@ use Rattle.uslp_record.specs.declared.ChannelRecord.{ChannelRecord}
 use Rattle.uslp_record.specs.declared.Arrival.{Arrival}
 use Rattle.uslp_record.specs.declared.Arrival.the-variants.{New, Repeat, Late}
 use Rattle.uslp_record.specs.declared.Change.{Change}
-use Rattle.uslp_record.specs.declared.counting.Step.{Step}
+use Rattle.uslp_record.proofs.Hears.{Step}
 use Rattle.uslp_record.proofs.Count.{counts-positive, arrives-again, arrives-new, arrives-late}
 use Rattle.uslp_record.proofs.Hears.{Steps, judging-full, judging-done}
 use Rattle.uslp_record.proofs.Slots.{same-self}
