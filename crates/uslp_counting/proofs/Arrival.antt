@@ -4,9 +4,9 @@ use mathlib.Core.Bool.{Bool, true, false, cond}
 use mathlib.Core.List.{List, [], _∷_, _++_}
 use Prim.Native.Nat.{ℕ, _+_, _-_, _^_, _%_, _/_, _<_, _≤_}
 use native.Mathlib.Omega.{arith}
-use Rattle.uslp_kinds.specs.Outcome.{Outcome, done, refused, andThen}
+use Rattle.uslp_kinds.specs.Outcome.{Outcome, done, andThen}
 use Rattle.uslp_kinds.proofs.Outcomes.{not-done}
-use Rattle.uslp_record.specs.Slots.{sameChannel, find, stateAt, put}
+use Rattle.uslp_record.specs.Slots.{sameChannel, find, put}
 use Rattle.uslp_record.specs.Record.{keeping}
 use Rattle.uslp_record.specs.Judging.{ahead, arrivalOf, overfull, arrivalAt, totalsAt, widthAt, judging, taken}
 use Rattle.uslp_record.specs.declared.Channel.{Channel}
@@ -16,9 +16,8 @@ use Rattle.uslp_record.specs.declared.ChannelRecord.{ChannelRecord}
 use Rattle.uslp_record.specs.declared.Arrival.{Arrival}
 use Rattle.uslp_record.specs.declared.Arrival.the-variants.{New, Repeat, Late}
 use Rattle.uslp_record.specs.declared.Change.{Change}
-use Rattle.uslp_record.proofs.Hears.{Step}
 use Rattle.uslp_record.proofs.Count.{counts-positive, arrives-again, arrives-new, arrives-late}
-use Rattle.uslp_record.proofs.Hears.{Steps, judging-full, judging-done}
+use Rattle.uslp_record.proofs.Hears.{judged-full, judged-done}
 use Rattle.uslp_record.proofs.Slots.{same-self}
 use Rattle.uslp_reader.specs.Reader.{frameReading, contentsIn}
 use Rattle.uslp_reader.specs.declared.TransferFrame.{TransferFrame}
@@ -30,33 +29,6 @@ use Rattle.uslp_counting.specs.History.{answerOf, handing, Roomy, Sender
 use Rattle.uslp_counting.specs.History.Call.{hears}
 use Rattle.uslp_counting.proofs.Ahead.{half-twice, ahead-on, ahead-back}
 use Rattle.uslp_counting.proofs.Stands.{Stands}
-
--- a frame of the channel in its width is done, or a total is full
-module _ (K : Channel) (r : ChannelRecord) (t : SlotState) (at : Stands K r t) (w n : ℕ) (narrow : w ≤ 7) (wide : w ≡ widthAt t) where
-  abbrev found : SlotState
-  found = stateAt r (find K (r .slots))
-
-  abbrev pub changeOwn : Change
-  changeOwn = record { at = find K (r .slots); state = Heard K w (totalsAt t n) }
-
-  -- the step that the slot's own state makes
-  abbrev own : Bool → Step
-  own b = record { full = b; arrival = arrivalAt found n; totals = totalsAt found n }
-
-  module _ (b : Bool) (e : overfull (totalsAt t n) ≡ b) where
-    stepped : Steps (own b) (arrivalAt found n) (totalsAt found n)
-    stepped = (sym (ap (λ (u : SlotState). overfull (totalsAt u n)) (at .state) ∙ e), refl, λ f. refl)
-
-    opened : w ≡ widthAt found
-    opened = wide ∙ ap widthAt (sym (at .state))
-
-  pub judging-own : overfull (totalsAt t n) ≡ false → judging r K w n ≡ done (arrivalAt t n, changeOwn)
-  judging-own e =
-      judging-done r K w n narrow (find K (r .slots)) refl (at .there) w (opened false e) (own false) refl (stepped false e) refl
-      ∙ ap (λ (u : SlotState). done (arrivalAt u n, record { at = find K (r .slots); state = Heard K w (totalsAt u n) })) (at .state)
-
-  pub judging-filled : overfull (totalsAt t n) ≡ true → judging r K w n ≡ refused 17 []
-  judging-filled e = judging-full r K w n narrow (find K (r .slots)) refl (at .there) w (opened true e) (own true) refl (stepped true e) refl
 
 module _ {K : Channel} {width : ℕ} {fecf : Bool} (S : Sender K width fecf) where
   -- the count at a place, and the frame that the reader finds there
@@ -91,7 +63,7 @@ module _ {K : Channel} {width : ℕ} {fecf : Bool} (S : Sender K width fecf) whe
       pub arrival-done : overfull (totalsAt t (countAt p)) ≡ false
           → frameHearing r (frameAt S p ++ behind) fecf
           ≡ keeping (done (frameArrival (sentAt p) (arrivalAt t (countAt p)))) (put r (find K (r .slots)) (Heard K width (totalsAt t (countAt p))))
-      arrival-done e = frame-heard ∙ ap (λ (o : Outcome (Arrival × Change)). taken r (withFrame (sentAt p) o)) (judging-own K r t at width (countAt p) hi wide e)
+      arrival-done e = frame-heard ∙ ap (λ (o : Outcome (Arrival × Change)). taken r (withFrame (sentAt p) o)) (judged-done r K width (countAt p) hi (at .there) t (at .state) wide e)
 
       -- a hearing that does not get TOTAL_FULL, and totals that are not full
       pub room-in : Roomy frameHearing K r (hears (frameAt S p ++ behind) fecf) → overfull (totalsAt t (countAt p)) ≡ false
@@ -102,7 +74,7 @@ module _ {K : Channel} {width : ℕ} {fecf : Bool} (S : Sender K width fecf) whe
               absurd
               (room (sentAt p) reads same-here
               (ap answerOf
-              (frame-heard ∙ ap (λ (o : Outcome (Arrival × Change)). taken r (withFrame (sentAt p) o)) (judging-filled K r t at width (countAt p) hi wide e))))
+              (frame-heard ∙ ap (λ (o : Outcome (Arrival × Change)). taken r (withFrame (sentAt p) o)) (judged-full r K width (countAt p) hi (at .there) t (at .state) wide e))))
           go false e = refl
 
       pub room-out : overfull (totalsAt t (countAt p)) ≡ false → Roomy frameHearing K r (hears (frameAt S p ++ behind) fecf)

@@ -3,3 +3,12 @@ pub mod Lost
 pub mod Stands
 pub mod Others
 pub mod Arrival
+pub mod Step
+pub mod Events
+pub mod Theorem
+pub mod Room
+pub mod Refusals
+pub mod Console
+pub mod Witness
+pub mod Instance
+pub mod Wrong

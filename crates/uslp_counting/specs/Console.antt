@@ -1,12 +1,14 @@
 -- The console total, counted channel by channel.
 use mathlib.Core.List.{List, [], _∷_, _++_}
-use Prim.Native.Nat.{ℕ, _+_}
+use Prim.Native.Nat.{ℕ, _+_, _^_, _<_}
+use Rattle.uslp_octets.specs.Octets.{AreOctets}
 use Rattle.uslp_record.specs.declared.Channel.{Channel}
 use Rattle.uslp_record.specs.declared.SlotState.{SlotState}
 use Rattle.uslp_record.specs.declared.SlotState.the-variants.{Closed, Opened, Heard}
 use Rattle.uslp_record.specs.declared.Slot.{Slot}
 use Rattle.uslp_record.specs.declared.ChannelRecord.{ChannelRecord}
-use Rattle.uslp_counting.specs.History.{missingFor}
+use Rattle.uslp_counting.specs.History.{missingFor, Call}
+use Rattle.uslp_counting.specs.History.Call.{hears, opens, closes}
 
 -- the channels that are open, slot by slot
 abbrev pub channelIn : SlotState → List Channel
@@ -25,3 +27,13 @@ sumOver f (k ∷ ks) = f k + sumOver f ks
 -- the sum over the open channels of what each is missing
 abbrev pub missingOverOpen : ChannelRecord → ℕ
 missingOverOpen r = sumOver (λ (k : Channel). missingFor k r) (openIn (r .slots))
+
+-- the bounds that the machine's own numbers keep in what is given to a call
+abbrev pub Given : Call → Type 0
+Given (hears s fecf) = AreOctets s
+Given (opens k width) = k .«spacecraft_id» < 2 ^ 16
+Given (closes k) = Unit {0}
+
+abbrev pub GivenAll : List Call → Type 0
+GivenAll [] = Unit {0}
+GivenAll (c ∷ cs) = Given c × GivenAll cs

@@ -1,4 +1,4 @@
--- Laws of counting: how far a count is ahead, what arrives, and totals that only grow. Assumes nothing.
+-- Laws of counting: how far a count is ahead, what arrives, and totals that only grow.
 use mathlib.Core.Path.{_≡_, refl, sym, _∙_, ap, subst}
 use mathlib.Core.Bool.{Bool, true, false, cond, _||_}
 use Prim.Native.Nat.{ℕ, zero, suc, _+_, _-_, _*_, _^_, _%_, _/_, _<_, _≤_}
@@ -100,6 +100,9 @@ module _ (t : Totals) where
       let y = or-false _ _ (x .0) in
       let z = or-false _ _ (y .0) in
       (ltb-false most (t .«handed_on») (z .0), ltb-false most (t .missing) (z .1), ltb-false most (t .repeats) (y .1), ltb-false most (t .late) (x .1))
+
+  pub not-full : t .«handed_on» ≤ most → t .missing ≤ most → t .repeats ≤ most → t .late ≤ most → overfull t ≡ false
+  not-full a b d e = simp (le-ltb most (t .«handed_on») a, le-ltb most (t .missing) b, le-ltb most (t .repeats) d, le-ltb most (t .late) e)
 
 -- totals that only grew: those that were too high stay so
 full-grown : (t q : Totals) → t .«handed_on» ≤ q .«handed_on» → t .missing ≤ q .missing → t .repeats ≤ q .repeats → t .late ≤ q .late → overfull t ≡ true → true ≡ overfull q

@@ -80,3 +80,19 @@ module _ (r : ChannelRecord) (k : Channel) (w n : ℕ) where
   judging-field narrow e =
       let i = find k (r .slots) in
       others (leb 8 i) (not (eqb w (widthAt (stateAt r i)))) (overfull (totalsAt (stateAt r i) n)) _ _ (simp (le-ltb 7 w narrow) at e)
+
+-- a frame of the channel in its width, by whether a total is full, for whoever knows the slot
+module _ (r : ChannelRecord) (k : Channel) (w n : ℕ) (narrow : w ≤ 7) (there : find k (r .slots) < 8) (u : SlotState) (is : stateAt r (find k (r .slots)) ≡ u) (wide : w ≡ widthAt u) where
+  abbrev own : Bool → Step
+  own b = record { full = b; arrival = arrivalAt (stateAt r (find k (r .slots))) n; totals = totalsAt (stateAt r (find k (r .slots))) n }
+
+  pub judged-full : overfull (totalsAt u n) ≡ true → judging r k w n ≡ refused 17 []
+  judged-full e =
+      judging-full r k w n narrow (find k (r .slots)) refl there w (wide ∙ ap widthAt (sym is)) (own true) refl
+      (sym (ap (λ (v : SlotState). overfull (totalsAt v n)) is ∙ e), refl, λ f. refl) refl
+
+  pub judged-done : overfull (totalsAt u n) ≡ false → judging r k w n ≡ done (arrivalAt u n, record { at = find k (r .slots); state = Heard k w (totalsAt u n) })
+  judged-done e =
+      judging-done r k w n narrow (find k (r .slots)) refl there w (wide ∙ ap widthAt (sym is)) (own false) refl
+      (sym (ap (λ (v : SlotState). overfull (totalsAt v n)) is ∙ e), refl, λ f. refl) refl
+      ∙ ap (λ (v : SlotState). done (arrivalAt v n, record { at = find k (r .slots); state = Heard k w (totalsAt v n) })) is

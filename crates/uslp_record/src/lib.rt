@@ -94,7 +94,9 @@ impl ChannelRecord {
         let slot = Slot {
             state: SlotState::Closed,
         };
-        ChannelRecord { slots: [slot; SLOTS] }
+        ChannelRecord {
+            slots: [slot; SLOTS],
+        }
     }
 
     // Takes the first closed slot. Refuses BAD_FIELD, ALREADY_OPEN, TABLE_FULL.

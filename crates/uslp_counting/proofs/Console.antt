@@ -1,0 +1,100 @@
+-- The console total is the sum over the open channels of what each is missing, in a record that holds no channel twice.
+use mathlib.Core.Path.{_≡_, refl, sym, ap, _∙_}
+use mathlib.Core.Bool.{true, false}
+use mathlib.Core.List.{List, [], _∷_, _++_}
+use Prim.Native.Nat.{ℕ, zero, suc, _+_, _<_, _≤_}
+use native.Mathlib.Omega.{arith}
+use native.Mathlib.Decide.{decLt}
+use native.Mathlib.Nat.{zero-add, add-zero}
+use borrow.Author.Tests.{le-ltb}
+use lib.ListN.{length, getD}
+use Rattle.uslp_kinds.specs.Outcome.{done}
+use Rattle.uslp_record.specs.Slots.{stateHolds, holds, find, slotOf, stateAt, emptyRecord}
+use Rattle.uslp_record.specs.Record.{most, missingOf, missingIn, tooMuchIn, consoleTotal}
+use Rattle.uslp_record.specs.declared.Channel.{Channel}
+use Rattle.uslp_record.specs.declared.SlotState.{SlotState}
+use Rattle.uslp_record.specs.declared.SlotState.the-variants.{Closed, Opened, Heard}
+use Rattle.uslp_record.specs.declared.Slot.{Slot}
+use Rattle.uslp_record.specs.declared.ChannelRecord.{ChannelRecord}
+use Rattle.uslp_record.proofs.Seek.{finds}
+use Rattle.uslp_counting.specs.History.{missingFor, called, run, Call}
+use Rattle.uslp_counting.specs.History.Call.{hears, opens, closes}
+use Rattle.uslp_record.specs.Made.{Distinct, Sound, Made}
+use Rattle.uslp_counting.specs.Console.{channelIn, openIn, sumOver, missingOverOpen, Given, GivenAll}
+use Rattle.uslp_record.proofs.Slots.{true-false, same-self, seek-passes, seek-none}
+use Rattle.uslp_record.proofs.Keeps.{made-empty, made-opening, made-closing}
+use Rattle.uslp_hearing.specs.Hearing.{frameHearing}
+use Rattle.uslp_hearing.proofs.Ways.{made-hearing}
+
+module _ (r : ChannelRecord) (long : length (r .slots) ≡ 8) (once : Distinct r) where
+  -- the search finds the one slot that holds the channel
+  found : (k : Channel) (i : ℕ) → i < 8 → stateHolds k (stateAt r i) ≡ true → find k (r .slots) ≡ i
+  found k i h e =
+      elim (decLt (find k (r .slots)) 8) [
+        | yes a ↦ once k (find k (r .slots)) i a h (seek-passes (holds k) (find k) (finds k) (r .slots) (slotOf Closed) (omega arith)) e
+        | no a ↦ absurd (true-false e (seek-none (holds k) (find k) (finds k) (r .slots) (slotOf Closed) i (omega arith) (omega arith)))
+      ]
+
+  slot-missing : (t : SlotState) (i : ℕ) → i < 8 → stateAt r i ≡ t → sumOver (λ (k : Channel). missingFor k r) (channelIn t) ≡ missingOf t
+  slot-missing Closed i h e = refl
+  slot-missing (Opened k w) i h e =
+      add-zero (missingFor k r)
+      ∙ ap (λ (j : ℕ). missingOf (stateAt r j)) (found k i h (ap (stateHolds k) e ∙ same-self k)) ∙ ap missingOf e
+  slot-missing (Heard k w c) i h e =
+      add-zero (missingFor k r)
+      ∙ ap (λ (j : ℕ). missingOf (stateAt r j)) (found k i h (ap (stateHolds k) e ∙ same-self k)) ∙ ap missingOf e
+
+  sum-append : (f : Channel → ℕ) (a b : List Channel) → sumOver f (a ++ b) ≡ sumOver f a + sumOver f b
+  sum-append f [] b = omega arith
+  sum-append f (k ∷ a) b = let h = sum-append f a b in omega arith
+
+  -- the slots from place i on
+  from : (l : List Slot) (i : ℕ) → i + length l ≡ 8 → ((j : ℕ) → j < length l → stateAt r (i + j) ≡ getD l j (slotOf Closed) .state)
+      → sumOver (λ (k : Channel). missingFor k r) (openIn l) ≡ missingIn l
+  unfolding missingIn
+  from [] i e at = refl
+  from (x ∷ l) i e at =
+      let here = slot-missing (x .state) i (omega arith) (ap (stateAt r) (sym (add-zero i)) ∙ at 0 (omega arith)) in
+      let rest = from l (i + 1) (omega arith) (λ j h. let q : i + 1 + j ≡ i + suc j = omega arith in ap (stateAt r) q ∙ at (suc j) (omega arith)) in
+      sum-append (λ (k : Channel). missingFor k r) (channelIn (x .state)) (openIn l) ∙ omega (arith, here, rest)
+
+  pub console-sum : missingIn (r .slots) ≡ missingOverOpen r
+  console-sum = sym (from (r .slots) 0 (omega arith) (λ j h. ap (stateAt r) (zero-add j)))
+
+  -- where no total is above the largest, asking gives that sum
+  pub console-counts : tooMuchIn (r .slots) ≡ false → consoleTotal r ≡ done (missingOverOpen r)
+  unfolding consoleTotal
+  console-counts e = rw e (ap done console-sum)
+
+-- no slot of a record that calls made misses more than the largest total
+sound-missing : (t : SlotState) → Sound t → missingOf t ≤ most
+sound-missing Closed s = omega arith
+sound-missing (Opened k w) s = omega arith
+sound-missing (Heard k w t) s = s .1 .missing
+
+none-too-much : (l : List Slot) → ((j : ℕ) → missingOf (getD l j (slotOf Closed) .state) ≤ most) → tooMuchIn l ≡ false
+unfolding tooMuchIn
+none-too-much [] h = refl
+none-too-much (x ∷ l) h = rw (le-ltb most (missingOf (x .state)) (h 0)) (none-too-much l (λ j. h (suc j)))
+
+-- so asking for the total of such a record is done, and gives the sum
+pub console-made : (r : ChannelRecord) → Made r → consoleTotal r ≡ done (missingOverOpen r)
+console-made r made = console-counts r (made .eight) (made .once) (none-too-much (r .slots) (λ j. sound-missing (stateAt r j) (made .sound j)))
+
+-- every call keeps it, and so does every history from the empty record
+module _ (K : Channel) where
+  pub made-called : (r : ChannelRecord) → Made r → (c : Call) → Given c → Made (called frameHearing K r c .1)
+  made-called r made (hears s fecf) given = made-hearing r made s fecf given
+  made-called r made (opens k w) given = made-opening r made k w given
+  made-called r made (closes k) given = made-closing r made k
+
+  made-from : (cs : List Call) (r : ChannelRecord) → Made r → GivenAll cs → Made (run frameHearing K r cs)
+  unfolding run
+  made-from [] r made given = made
+  made-from (c ∷ cs) r made given = made-from cs (called frameHearing K r c .1) (made-called r made c (given .0)) (given .1)
+
+  pub made-run : (cs : List Call) → GivenAll cs → Made (run frameHearing K emptyRecord cs)
+  made-run cs = made-from cs emptyRecord made-empty
+
+  pub console-run : (cs : List Call) → GivenAll cs → consoleTotal (run frameHearing K emptyRecord cs) ≡ done (missingOverOpen (run frameHearing K emptyRecord cs))
+  console-run cs given = console-made (run frameHearing K emptyRecord cs) (made-run cs given)

@@ -1,0 +1,74 @@
+-- Histories of the oven in width 1: the places 0 and q arrive, of 256 counts. What is asked of a history can be met, and the window is tight.
+use mathlib.Core.Path.{_≡_, refl, sym, ap, _∙_}
+use mathlib.Core.Bool.{false}
+use mathlib.Core.List.{List, [], _∷_, _++_, map}
+use Prim.Native.Nat.{ℕ, suc, _-_, _<_, _≤_}
+use native.Mathlib.Omega.{arith}
+use borrow.Author.Tests.{lt-ltb}
+use lib.ListN.{length}
+use Rattle.uslp_kinds.specs.Outcome.{done}
+use Rattle.uslp_primary_header.specs.Header.{headerReading}
+use Rattle.uslp_data_field_header.specs.Field.{fieldReading}
+use Rattle.uslp_reader.specs.Reader.{frameReading}
+use Rattle.uslp_record.specs.Slots.{find, vacant, put, emptyRecord}
+use Rattle.uslp_record.specs.Record.{keeping, opening}
+use Rattle.uslp_record.specs.Judging.{judging}
+use Rattle.uslp_record.specs.declared.SlotState.the-variants.{Opened}
+use Rattle.uslp_record.specs.declared.ChannelRecord.{ChannelRecord}
+use Rattle.uslp_hearing.specs.Hearing.{frameHearing}
+use Rattle.uslp_counting.specs.Places.{furthest, aheadOf, leaders, Close, Window, among, absent, lost}
+use Rattle.uslp_counting.specs.History.{Handing, run, handed, missingFor, Sender, Event, Call, callOf, handingAt, following, handings, places}
+use Rattle.uslp_counting.specs.History.Event.{arrives}
+use Rattle.uslp_counting.proofs.Lost.{lost-more, lost-one}
+use Rattle.uslp_counting.proofs.Theorem.{counted}
+use Rattle.uslp_counting.proofs.Room.{unfilled}
+use Rattle.uslp_counting.proofs.Witness.{craft, oven}
+
+abbrev pub sender : Sender craft 1 false
+sender = oven 1 (omega arith) false
+
+-- the record once the channel is open
+abbrev pub begun : ChannelRecord
+begun = put emptyRecord 0 (Opened craft 1)
+
+pub begins : opening emptyRecord craft 1 ≡ keeping (done tt) begun
+unfolding opening find vacant
+begins = refl
+
+-- p arrives, and then q
+abbrev pub two : ℕ → ℕ → List (Event craft 1)
+two p q = arrives p [] ∷ arrives q [] ∷ []
+
+abbrev pub calls : ℕ → ℕ → List Call
+calls p q = map (callOf sender) (two p q)
+
+pub near : (q : ℕ) → q ≤ 128 → Window 128 [] (places (two 0 q))
+unfolding Window Close places furthest
+near q h = (tt, ((omega arith, omega arith), tt))
+
+pub lost-two : (q : ℕ) → 0 < q → lost (leaders [] (places (two 0 q))) ≡ q - 1
+unfolding leaders places aheadOf furthest
+lost-two q h =
+    let one = lost-one 0 in
+    let more = lost-more 0 q [] (omega arith) in
+    rw (lt-ltb 0 q h) (omega (arith, one, more))
+
+-- the places 0 and 2: both are handed on, the second with a gap of one, and one is missing
+pub one-missing : (handed frameHearing craft begun (calls 0 2) ≡ handingAt sender 0 0 ∷ handingAt sender 1 2 ∷ [])
+    × (missingFor craft (run frameHearing craft begun (calls 0 2)) ≡ 1)
+unfolding places leaders aheadOf handings following
+one-missing =
+    let less = lost-two 2 (omega arith) in
+    let c = counted craft 1 false sender (omega arith) (omega arith) emptyRecord begun refl begins (two 0 2) (near 2 (omega arith))
+    (unfilled sender (omega arith) (omega arith) emptyRecord begun refl begins (two 0 2) (near 2 (omega arith)) (omega arith) (omega arith)) in
+    (c .0, c .1 ∙ less)
+
+-- one place further ahead than the window: 129 after 0 is taken for LATE, and is not handed on
+pub too-far-ahead : handed frameHearing craft begun (calls 0 129) ≡ handings sender (leaders [] (places (two 0 129))) → ⊥
+unfolding handed oven frameReading headerReading fieldReading judging find places leaders aheadOf handings following
+too-far-ahead e = let z : _≡_ {A = ℕ} 1 2 = ap length e in omega arith
+
+-- one place further behind: 0 after 128 is taken for NEW, and is handed on
+pub too-far-behind : handed frameHearing craft begun (calls 128 0) ≡ handings sender (leaders [] (places (two 128 0))) → ⊥
+unfolding handed oven frameReading headerReading fieldReading judging find places leaders aheadOf handings following
+too-far-behind e = let z : _≡_ {A = ℕ} 2 1 = ap length e in omega arith

@@ -1,0 +1,91 @@
+-- No total is full where fewer than 2^60 frames arrive and fewer than 2^60 are lost: said of the places alone.
+use mathlib.Core.Path.{_≡_, refl, sym, _∙_, ap, subst}
+use mathlib.Core.Bool.{Bool, true, false, cond}
+use mathlib.Core.List.{List, [], _∷_, _++_, map, append-nil, append-assoc}
+use Prim.Native.Nat.{ℕ, suc, _+_, _-_, _^_, _/_, _<_, _≤_}
+use native.Mathlib.Omega.{arith}
+use native.Mathlib.Decide.{decLt}
+use lib.ListN.{length, length-append}
+use Rattle.uslp_kinds.specs.Outcome.{done}
+use Rattle.uslp_record.specs.Record.{most, keeping, opening}
+use Rattle.uslp_record.specs.declared.Channel.{Channel}
+use Rattle.uslp_record.specs.declared.SlotState.{SlotState}
+use Rattle.uslp_record.specs.declared.SlotState.the-variants.{Opened, Heard}
+use Rattle.uslp_record.specs.declared.ChannelRecord.{ChannelRecord}
+use Rattle.uslp_hearing.specs.Hearing.{frameHearing}
+use Rattle.uslp_counting.specs.Places.{furthest, aheadOf, leaders, Window, lost}
+use Rattle.uslp_counting.specs.History.{called, Roomy, Unfilled, Sender, Event, callOf, placesOf, places}
+use Rattle.uslp_counting.specs.History.Event.{arrives, damaged, elsewhere, misfits, opened, closed, again}
+use Rattle.uslp_counting.proofs.Stands.{Stands, stands-opened}
+use Rattle.uslp_counting.proofs.Others.{roomy-damaged, roomy-elsewhere, roomy-misfit}
+use Rattle.uslp_counting.proofs.Arrival.{room-out}
+use Rattle.uslp_counting.proofs.Lost.{furthest-more, furthest-new, furthest-old, lost-more, ahead-yes, ahead-no}
+use Rattle.uslp_counting.proofs.Step.{Counting, quiet, going, counting-width, counting-room, advance}
+use Rattle.uslp_counting.proofs.Events.{Near, seenWith, window-first, went}
+
+-- as places follow, what is lost only grows
+lost-grows : (ps : List ℕ) (k : ℕ) (ks : List ℕ) (f : ℕ) (l : List ℕ) → furthest (f ∷ l) ≡ furthest (k ∷ ks)
+    → lost (f ∷ l) ≤ lost ((f ∷ l) ++ leaders (k ∷ ks) ps)
+unfolding leaders
+lost-grows [] k ks f l top = let e : lost (f ∷ l) ≡ lost ((f ∷ l) ++ []) = ap lost (sym (append-nil (f ∷ l))) in omega arith
+lost-grows (p ∷ ps) k ks f l top = go (decLt (furthest (k ∷ ks)) p) (λ m e. lost-grows ps p (k ∷ ks) f m e)
+  where
+    go : Dec (furthest (k ∷ ks) < p) → ((m : List ℕ) → furthest (f ∷ m) ≡ furthest (p ∷ k ∷ ks) → lost (f ∷ m) ≤ lost ((f ∷ m) ++ leaders (p ∷ k ∷ ks) ps))
+        → lost (f ∷ l) ≤ lost ((f ∷ l) ++ cond (aheadOf (k ∷ ks) p) (p ∷ leaders (p ∷ k ∷ ks) ps) (leaders (p ∷ k ∷ ks) ps))
+    go (yes a) grows =
+        let ls = leaders (p ∷ k ∷ ks) ps in
+        let high = furthest-new p (k ∷ ks) (omega arith) in
+        let more = lost-more f p l (omega arith) in
+        let ih = grows (l ++ (p ∷ [])) (furthest-more p (f ∷ l) ∙ omega arith) in
+        let e : lost ((f ∷ (l ++ (p ∷ []))) ++ ls) ≡ lost ((f ∷ l) ++ cond (aheadOf (k ∷ ks) p) (p ∷ ls) ls) =
+        ap lost (append-assoc (f ∷ l) (p ∷ []) ls ∙ sym (ap (λ (z : Bool). (f ∷ l) ++ cond z (p ∷ ls) ls) (ahead-yes p (k ∷ ks) a))) in
+        omega (arith, more, ih, e)
+    go (no a) grows =
+        let ls = leaders (p ∷ k ∷ ks) ps in
+        let ih = grows l (top ∙ sym (furthest-old p (k ∷ ks) (omega arith))) in
+        let e : lost ((f ∷ l) ++ ls) ≡ lost ((f ∷ l) ++ cond (aheadOf (k ∷ ks) p) (p ∷ ls) ls) =
+        sym (ap (λ (z : Bool). lost ((f ∷ l) ++ cond z (p ∷ ls) ls)) (ahead-no k ks p (omega arith))) in
+        omega (arith, ih, e)
+
+module _ {K : Channel} {width : ℕ} {fecf : Bool} (S : Sender K width fecf) where
+  counting-grows : {k : ℕ} {ks before : List ℕ} {t : SlotState} → Counting S (k ∷ ks) before t → (ps : List ℕ) → lost before ≤ lost (before ++ leaders (k ∷ ks) ps)
+  counting-grows (going k ks f l t last top gone all) ps = lost-grows ps k ks f l top
+
+  module _ (lo : 1 ≤ width) (hi : width ≤ 7) where
+    roomy : (e : Event K width) (r : ChannelRecord) {seen before : List ℕ} {t : SlotState} → Stands K r t → Counting S seen before t → Near e seen → (ps : List ℕ)
+        → length (placesOf e ++ seen) ≤ most → lost (before ++ leaders seen (placesOf e ++ ps)) ≤ most → Roomy frameHearing K r (callOf S e)
+    unfolding leaders
+    roomy (arrives p behind) r {seen} {before} {t} at c near ps few less =
+        let h = advance S p behind lo hi c near in
+        let e = ap lost (h .leads (leaders (p ∷ seen) ps)) in
+        let g = counting-grows (h .counting) ps in
+        room-out S p behind r t at hi (counting-width S c) (counting-room S (h .counting) few (omega (arith, e, g, less)))
+    roomy (damaged s f k vs e) r {t} at c near ps few less = roomy-damaged K r t at s f k vs e
+    roomy (elsewhere s f x e o) r {t} at c near ps few less = roomy-elsewhere K r t at s f x e o
+    roomy (misfits s f x e o) r {t} at c near ps few less = roomy-misfit K r t at s f x e (λ w. o (w ∙ sym (counting-width S c)))
+    roomy (opened k w o) r at c near ps few less = tt
+    roomy (closed k o) r at c near ps few less = tt
+    roomy (again w) r at c near ps few less = tt
+
+    rooms : (es : List (Event K width)) (r : ChannelRecord) (seen before : List ℕ) (t : SlotState) → Stands K r t → Counting S seen before t
+        → Window (256 ^ width / 2) seen (places es) → length (places es) + length seen ≤ most → lost (before ++ leaders seen (places es)) ≤ most
+        → Unfilled frameHearing K r (map (callOf S) es)
+    unfolding Unfilled places
+    rooms [] r seen before t at c near few less = tt
+    rooms (e ∷ es) r seen before t at c near few less =
+        let w = window-first e seen (places es) near in
+        let a = length-append (placesOf e) (places es) in
+        let b = length-append (placesOf e) seen in
+        let room = roomy e r at c (w .0) (places es) (omega (arith, a, b, few)) less in
+        let h = went S lo hi e r at c (w .0) room in
+        let q = called frameHearing K r (callOf S e) in (
+          room,
+          rooms es (q .1) (seenWith e seen) (h .leading) (h .state) (h .stands) (h .counting) (w .1) (omega (arith, a, b, few))
+              (subst (λ (l : List ℕ). lost l ≤ most) (sym (h .leads (places es))) less),
+        )
+
+    pub unfilled : (r₀ r : ChannelRecord) → length (r₀ .slots) ≡ 8 → opening r₀ K width ≡ keeping (done tt) r
+        → (es : List (Event K width)) → Window (256 ^ width / 2) [] (places es) → length (places es) < 2 ^ 60 → lost (leaders [] (places es)) < 2 ^ 60
+        → Unfilled frameHearing K r (map (callOf S) es)
+    unfilled r₀ r long begins es near few less =
+        rooms es r [] [] (Opened K width) (stands-opened K width r₀ r long begins) quiet near (omega arith) (omega arith)

@@ -1,0 +1,68 @@
+-- No hearing that has demand 3, and does not answer TOTAL_FULL on these few frames, is one of the tempting wrong ones.
+use mathlib.Core.Path.{_≡_, refl, sym, ap, _∙_}
+use mathlib.Core.Bool.{Bool, true, false, cond}
+use mathlib.Core.List.{List, [], _∷_, _++_, append-nil}
+use Prim.Native.Nat.{ℕ, _-_, _<_, _≤_}
+use native.Mathlib.Omega.{arith}
+use lib.ListN.{length, length-append}
+use Rattle.uslp_kinds.specs.Outcome.{Outcome, done, refused}
+use Rattle.uslp_reader.specs.Reader.{contentsIn}
+use Rattle.uslp_record.specs.Slots.{sameChannel, find, emptyRecord}
+use Rattle.uslp_record.specs.declared.Channel.{Channel}
+use Rattle.uslp_record.specs.declared.ChannelRecord.{ChannelRecord}
+use Rattle.uslp_hearing.specs.Hearing.{channelOf}
+use Rattle.uslp_hearing.specs.declared.FrameArrival.{FrameArrival}
+use Rattle.uslp_hearing.specs.declared.FrameArrival.the-variants.{New, Repeat, Late}
+use Rattle.uslp_counting.specs.Places.{aheadOf, leaders}
+use Rattle.uslp_counting.specs.History.{Hearer, Handing, recordOf, answerOf, handing, run, handed, Unfilled, missingFor, frameAt, handings, following, places}
+use Rattle.uslp_counting.specs.Demand.{Demand3}
+use Rattle.uslp_counting.proofs.Witness.{craft}
+use Rattle.uslp_counting.proofs.Instance.{sender, begun, begins, two, calls, near, lost-two}
+
+-- an answer hands one frame on at the most
+one-at-most : (K : Channel) (s : List ℕ) (o : Outcome FrameArrival) → length (handing K s o) ≤ 1
+one-at-most K s (done (New gap x)) = go (sameChannel (channelOf (x .«primary_header»)) K)
+  where
+    go : (b : Bool) → length {A = Handing} (cond b ((gap, x, contentsIn x s) ∷ []) []) ≤ 1
+    go true = omega arith
+    go false = omega arith
+one-at-most K s (done Repeat) = omega arith
+one-at-most K s (done Late) = omega arith
+one-at-most K s (refused k vs) = omega arith
+
+-- the octets of the oven's frame at a place
+abbrev sent : ℕ → List ℕ
+sent p = frameAt sender p ++ []
+
+module _ (H : Hearer) (demand : Demand3 H) (room : (q : ℕ) → Unfilled H craft begun (calls 0 q)) where
+  -- what is missing after 0 and q comes from the places sent
+  pub missing-two : (q : ℕ) → 0 < q → q ≤ 128 → missingFor craft (run H craft begun (calls 0 q)) ≡ q - 1
+  missing-two q some few =
+      demand craft 1 false sender (omega arith) (omega arith) emptyRecord begun refl begins (two 0 q) (near q few) (room q) .1 ∙ lost-two q some
+
+  -- a hearing that changes no record: by the missing total after a gap
+  pub no-still : ((r : ChannelRecord) (s : List ℕ) (f : Bool) → recordOf (H r s f) ≡ r) → ⊥
+  unfolding run find
+  no-still still =
+      let z : _≡_ {A = ℕ} 0 1 = sym (ap (missingFor craft) (still _ _ _ ∙ still _ _ _)) ∙ missing-two 2 (omega arith) (omega arith) in omega arith
+
+  -- a missing total kept at zero, or made up: by the places sent
+  pub no-made-up : (m : ℕ) → ((r : ChannelRecord) (s : List ℕ) (f : Bool) → missingFor craft (recordOf (H r s f)) ≡ m) → ⊥
+  unfolding run
+  no-made-up m made =
+      let a : m ≡ 1 = sym (made _ _ _) ∙ missing-two 2 (omega arith) (omega arith) in
+      let b : m ≡ 2 = sym (made _ _ _) ∙ missing-two 3 (omega arith) (omega arith) in
+      omega arith
+
+  -- one that calls all later arrivals REPEAT: by the frames handed on
+  pub no-repeater : ((r : ChannelRecord) → answerOf (H r (sent 2) false) ≡ done Repeat) → ⊥
+  unfolding handed places leaders aheadOf handings following
+  no-repeater repeats =
+      let first = answerOf (H begun (sent 0) false) in
+      let later = recordOf (H begun (sent 0) false) in
+      let h = demand craft 1 false sender (omega arith) (omega arith) emptyRecord begun refl begins (two 0 2) (near 2 (omega arith)) (room 2) .0 in
+      let a = ap length h in
+      let b = one-at-most craft (sent 0) first in
+      let c = ap (λ (o : Outcome FrameArrival). length (handing craft (sent 0) first ++ (handing craft (sent 2) o ++ []))) (repeats later) in
+      let d = length-append (handing craft (sent 0) first) [] in
+      omega (arith, a, b, c, d)
