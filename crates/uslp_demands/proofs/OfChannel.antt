@@ -15,7 +15,7 @@ use Rattle.uslp_hearing.specs.declared.FrameHeard.the-variants.{Done, Refused}
 use Rattle.uslp_hearing.proofs.Heard.{heard-back, frame-verdict-one}
 use Rattle.uslp_hearing.proofs as hearing
 use Rattle.uslp_demands.specs.Promise.{at, Allows, Settles, Shows}
-use Rattle.uslp_demands.specs.Samples.{octetsF, some, readF}
+use Rattle.uslp_roundtrip.specs.Samples.{octetsF, some, readF}
 use Rattle.uslp_demands.proofs.Alike.{alike}
 
 pub hear-settles : Settles hearing.hear.Kinds.ps hearing.hear.Kinds.r hearing.hear.Reads.Pre hearing.hear.Reads.Learnt

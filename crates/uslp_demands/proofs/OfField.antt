@@ -16,7 +16,7 @@ use Rattle.uslp_data_field_header.specs.declared.DataFieldHeaderAnswer.the-vari
 use Rattle.uslp_data_field_header.proofs.RoundTrip.{field-back}
 use Rattle.uslp_data_field_header.proofs as field
 use Rattle.uslp_demands.specs.Promise.{at, Allows, Settles}
-use Rattle.uslp_demands.specs.Samples.{whole, spanning}
+use Rattle.uslp_roundtrip.specs.Samples.{whole, spanning}
 use Rattle.uslp_demands.proofs.Alike.{alike}
 
 -- rule 7 with a pointer, which no call makes

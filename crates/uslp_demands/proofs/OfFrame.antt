@@ -20,7 +20,7 @@ use Rattle.uslp_writer.specs.declared.ReservedAnswer.the-variants as reserved-a
 use Rattle.uslp_writer.proofs.Paths.{reserved-back}
 use Rattle.uslp_writer.proofs as frame
 use Rattle.uslp_demands.specs.Promise.{at, Allows, Settles, Shows}
-use Rattle.uslp_demands.specs.Samples.{frameF, plain, unflagged, zeros}
+use Rattle.uslp_roundtrip.specs.Samples.{frameF, plain, unflagged, zeros}
 use Rattle.uslp_demands.proofs.Alike.{alike}
 
 -- four numbers that no call made: an area behind the total, and sizes whose sum no machine number holds

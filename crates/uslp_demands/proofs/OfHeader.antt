@@ -18,7 +18,7 @@ use Rattle.uslp_primary_header.specs.declared.HeaderAnswer.the-variants as head
 use Rattle.uslp_primary_header.proofs.RoundTrip.{header-one}
 use Rattle.uslp_primary_header.proofs as header
 use Rattle.uslp_demands.specs.Promise.{at, Allows, Settles}
-use Rattle.uslp_demands.specs.Samples.{some, made}
+use Rattle.uslp_roundtrip.specs.Samples.{some, made}
 use Rattle.uslp_demands.proofs.Alike.{alike}
 
 -- its octets, and as many zeros

@@ -6,7 +6,7 @@ use Prim.Native.Nat.{ℕ}
 use native.Mathlib.Omega.{arith}
 use Rattle.uslp_layout.proofs as layout
 use Rattle.uslp_demands.specs.Promise.{Allows, Settles}
-use Rattle.uslp_demands.specs.Samples.{whole, spanning, some, flagged}
+use Rattle.uslp_roundtrip.specs.Samples.{whole, spanning, some, flagged}
 use Rattle.uslp_demands.proofs.Alike.{alike}
 
 pub data-start-settles : Settles layout.data_start.Kinds.ps layout.data_start.Kinds.r layout.data_start.Reads.Pre layout.data_start.Reads.Learnt

@@ -15,7 +15,7 @@ use Rattle.uslp_lent.specs.declared.setters.Decided.{Decided}
 use Rattle.uslp_lent.proofs.setters as setters
 use Rattle.uslp_demands.specs.Promise.{Allows, Settles}
 use Rattle.uslp_demands.specs.Clause as clause
-use Rattle.uslp_demands.specs.Samples.{some, made}
+use Rattle.uslp_roundtrip.specs.Samples.{some, made}
 use Rattle.uslp_demands.proofs.Alike.{alike, done-alike}
 use Rattle.uslp_demands.proofs.Facts.{by-fact, shut}
 

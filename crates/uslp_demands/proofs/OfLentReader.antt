@@ -39,7 +39,7 @@ use Rattle.uslp_lent.proofs.reader.TransferFrameReader as reader
 use Rattle.uslp_demands.specs.Promise as promise
 use Rattle.uslp_demands.specs.Promise.{at, Allows}
 use Rattle.uslp_demands.specs.Clause.{Settles, Shows, ShutsOut}
-use Rattle.uslp_demands.specs.Samples.{some, made, spanning, octetsF, readF}
+use Rattle.uslp_roundtrip.specs.Samples.{some, made, spanning, octetsF, readF}
 use Rattle.uslp_demands.proofs.Alike.{alike}
 use Rattle.uslp_demands.proofs.Facts.{by-fact, shut}
 

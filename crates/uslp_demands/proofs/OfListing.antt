@@ -14,7 +14,7 @@ use Rattle.uslp_text.specs.Text.{widthIn}
 use Rattle.uslp_listing.specs.Listing.{linesFrom, listing, listingOver}
 use Rattle.uslp_listing.proofs as listing-proofs
 use Rattle.uslp_demands.specs.Promise.{at, Allows, Settles}
-use Rattle.uslp_demands.specs.Samples.{octetsF}
+use Rattle.uslp_roundtrip.specs.Samples.{octetsF}
 use Rattle.uslp_demands.proofs.Alike.{alike}
 
 pub list-settles : Settles listing-proofs.list.Kinds.ps listing-proofs.list.Kinds.r listing-proofs.list.Reads.Pre listing-proofs.list.Reads.Learnt

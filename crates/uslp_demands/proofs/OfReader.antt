@@ -21,7 +21,7 @@ use Rattle.uslp_reader.specs.declared.FrameAnswer.the-variants as frame-answer
 use Rattle.uslp_reader.proofs.Done.{frame-back}
 use Rattle.uslp_reader.proofs as reader
 use Rattle.uslp_demands.specs.Promise.{at, Allows, Settles, Shows}
-use Rattle.uslp_demands.specs.Samples.{some, whole, spanning, made, octetsF, readF}
+use Rattle.uslp_roundtrip.specs.Samples.{some, whole, spanning, made, octetsF, readF}
 use Rattle.uslp_demands.proofs.Alike.{alike}
 
 pub from-bytes-settles : Settles reader.TransferFrame.from_bytes.Kinds.ps reader.TransferFrame.from_bytes.Kinds.r reader.TransferFrame.from_bytes.Reads.Pre reader.TransferFrame.from_bytes.Reads.Learnt

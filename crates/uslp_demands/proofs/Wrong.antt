@@ -33,7 +33,7 @@ use Rattle.uslp_hearing.specs.declared.FrameArrival.the-variants.{New, Repeat}
 use Rattle.uslp_hearing.specs.declared.FrameHeard.the-variants as heard-answer
 use Rattle.uslp_hearing.proofs as channel-proofs
 use Rattle.uslp_demands.specs.Promise.{at, Program, Keeps}
-use Rattle.uslp_demands.specs.Samples.{octetsF, readF, some, plain, zeros}
+use Rattle.uslp_roundtrip.specs.Samples.{octetsF, readF, some, plain, zeros}
 use Rattle.uslp_demands.specs.Cases.{lastHeard}
 
 abbrev Reader : Type 0

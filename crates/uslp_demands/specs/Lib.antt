@@ -1,4 +1,3 @@
 pub mod Promise
 pub mod Clause
-pub mod Samples
 pub mod Cases

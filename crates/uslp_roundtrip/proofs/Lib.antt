@@ -2,3 +2,5 @@ pub mod Complete
 pub mod Sound
 pub mod Exactly
 pub mod Trips
+pub mod Demand
+pub mod Wrong

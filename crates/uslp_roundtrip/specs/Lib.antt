@@ -1,2 +1,4 @@
 pub mod Laid
 pub mod Bounds
+pub mod Samples
+pub mod Demand
