@@ -5,9 +5,9 @@ use Rattle.uslp_data_field_header.specs.Field.{fieldReading}
 use Rattle.uslp_writer.specs.Frame.{frameWriting}
 use Rattle.uslp_reader.specs.Reader.{frameReading}
 use Rattle.uslp_record.specs.Slots.{find}
-use Rattle.uslp_record.specs.Judging.{hearing}
+use Rattle.uslp_record.specs.Judging.{judging}
 use Rattle.uslp_demands.specs.Cases.{AllAnswered}
 
 pub all-answered : AllAnswered
-unfolding frameReading headerReading fieldReading frameWriting countSetting hearing find
+unfolding frameReading headerReading fieldReading frameWriting countSetting judging find
 all-answered = refl

@@ -25,7 +25,23 @@ use Rattle.uslp_writer.specs.declared.TransferFrameCreator.{TransferFrameCreato
 use Rattle.uslp_writer.specs.declared.TransferFrameCreatorWithReservedData.{TransferFrameCreatorWithReservedData}
 use Rattle.uslp_writer.specs.declared.ReservedAnswer.the-variants as reserved-answer
 use Rattle.uslp_writer.proofs as frame
-use Rattle.uslp_demands.specs.Promise.{Allows}
+use Rattle.uslp_demands.specs.Promise.{Function, Allows}
+
+-- the functions, each with its promise
+abbrev fn-write-to-slice : Function
+fn-write-to-slice = record { lifetimes = _; params = header.PrimaryHeader.write_to_slice.Kinds.ps; result = header.PrimaryHeader.write_to_slice.Kinds.r; asks = header.PrimaryHeader.write_to_slice.Reads.Pre; learnt = header.PrimaryHeader.write_to_slice.Reads.Learnt }
+
+abbrev fn-transfer-frame-data-field-header-write-to-slice : Function
+fn-transfer-frame-data-field-header-write-to-slice = record { lifetimes = _; params = field.TransferFrameDataFieldHeader.write_to_slice.Kinds.ps; result = field.TransferFrameDataFieldHeader.write_to_slice.Kinds.r; asks = field.TransferFrameDataFieldHeader.write_to_slice.Reads.Pre; learnt = field.TransferFrameDataFieldHeader.write_to_slice.Reads.Learnt }
+
+abbrev fn-transfer-frame-creator-write-to-slice : Function
+fn-transfer-frame-creator-write-to-slice = record { lifetimes = _; params = frame.TransferFrameCreator.write_to_slice.Kinds.ps; result = frame.TransferFrameCreator.write_to_slice.Kinds.r; asks = frame.TransferFrameCreator.write_to_slice.Reads.Pre; learnt = frame.TransferFrameCreator.write_to_slice.Reads.Learnt }
+
+abbrev fn-new : Function
+fn-new = record { lifetimes = _; params = frame.TransferFrameCreatorWithReservedData.new.Kinds.ps; result = frame.TransferFrameCreatorWithReservedData.new.Kinds.r; asks = frame.TransferFrameCreatorWithReservedData.new.Reads.Pre; learnt = frame.TransferFrameCreatorWithReservedData.new.Reads.Learnt }
+
+abbrev fn-finish : Function
+fn-finish = record { lifetimes = _; params = frame.TransferFrameCreatorWithReservedData.finish.Kinds.ps; result = frame.TransferFrameCreatorWithReservedData.finish.Kinds.r; asks = frame.TransferFrameCreatorWithReservedData.finish.Reads.Pre; learnt = frame.TransferFrameCreatorWithReservedData.finish.Reads.Learnt }
 
 -- the last check of a writing: room
 abbrev short : {A : Type 0} → List ℕ → ℕ → List (Bool × Outcome A)
@@ -33,21 +49,21 @@ short s n = (ltb (length s) n, refused 2 (length s ∷ n ∷ [])) ∷ []
 
 module _ (r : Refusal) (s : RefT (List ℕ)) (left : List ℕ) where
   pub header-kept : (κs : Lfts 1) (h : PrimaryHeader)
-      → Allows header.PrimaryHeader.write_to_slice.Kinds.ps header.PrimaryHeader.write_to_slice.Kinds.r header.PrimaryHeader.write_to_slice.Reads.Learnt κs (h, (s, tt)) (Refused r, (tt, (left, tt)))
+      → Allows fn-write-to-slice κs (h, (s, tt)) (Refused r, (tt, (left, tt)))
       → left ≡ now s
   unfolding headerWriting
   header-kept κs h e =
       refused-keeps (firstOf (headerChecks h ++ short (now s) (lenHeader h)) (done (lenHeader h))) (pack (table 0 h) ++ drop (lenHeader h) (now s)) (now s) (sym e)
 
   pub field-kept : (κs : Lfts 1) (f : TransferFrameDataFieldHeader)
-      → Allows field.TransferFrameDataFieldHeader.write_to_slice.Kinds.ps field.TransferFrameDataFieldHeader.write_to_slice.Kinds.r field.TransferFrameDataFieldHeader.write_to_slice.Reads.Learnt κs (f, (s, tt)) (Refused r, (tt, (left, tt)))
+      → Allows fn-transfer-frame-data-field-header-write-to-slice κs (f, (s, tt)) (Refused r, (tt, (left, tt)))
       → left ≡ now s
   unfolding fieldWriting
   field-kept κs f e =
       refused-keeps (firstOf (fieldChecks f ++ short (now s) (lenField f)) (done (lenField f))) (pack (fieldTable f) ++ drop (lenField f) (now s)) (now s) (sym e)
 
   pub frame-kept : (κs : Lfts 2) (c : TransferFrameCreator) (d : RefT (List ℕ))
-      → Allows frame.TransferFrameCreator.write_to_slice.Kinds.ps frame.TransferFrameCreator.write_to_slice.Kinds.r frame.TransferFrameCreator.write_to_slice.Reads.Learnt κs (c, (d, (s, tt))) (Refused r, (tt, (tt, (left, tt))))
+      → Allows fn-transfer-frame-creator-write-to-slice κs (c, (d, (s, tt))) (Refused r, (tt, (tt, (left, tt))))
       → left ≡ now s
   unfolding frameWriting
   frame-kept κs c d e =
@@ -55,14 +71,14 @@ module _ (r : Refusal) (s : RefT (List ℕ)) (left : List ℕ) where
       (frameOctets c (now d) ++ drop (total c (length (now d))) (now s)) (now s) (sym e)
 
   pub reserve-kept : (κs : Lfts 1) (c : TransferFrameCreator) (n : ℕ)
-      → Allows frame.TransferFrameCreatorWithReservedData.new.Kinds.ps frame.TransferFrameCreatorWithReservedData.new.Kinds.r frame.TransferFrameCreatorWithReservedData.new.Reads.Learnt κs (c, (n, (s, tt))) (reserved-answer.Refused r, (tt, (tt, (left, tt))))
+      → Allows fn-new κs (c, (n, (s, tt))) (reserved-answer.Refused r, (tt, (tt, (left, tt))))
       → left ≡ now s
   unfolding reserving
   reserve-kept κs c n e =
       refused-keeps (firstOf (frameChecks c n ++ short (now s) (total c n)) (done (reservation c n))) (reservedOctets c n (now s)) (now s) (sym e)
 
   pub finish-kept : (κs : Lfts 1) (k : TransferFrameCreatorWithReservedData)
-      → Allows frame.TransferFrameCreatorWithReservedData.finish.Kinds.ps frame.TransferFrameCreatorWithReservedData.finish.Kinds.r frame.TransferFrameCreatorWithReservedData.finish.Reads.Learnt κs (k, (s, tt)) (Refused r, (tt, (left, tt)))
+      → Allows fn-finish κs (k, (s, tt)) (Refused r, (tt, (left, tt)))
       → left ≡ now s
   finish-kept κs k e =
       refused-keeps (finishLength k (length (now s)))

@@ -3,13 +3,13 @@ pub mod Facts
 pub mod OfOctets
 pub mod OfChecksum
 pub mod OfKinds
-pub mod OfHeader
-pub mod OfField
+pub mod OfPrimaryHeader
+pub mod OfDataFieldHeader
 pub mod OfLayout
-pub mod OfFrame
+pub mod OfWriter
 pub mod OfReader
 pub mod OfRecord
-pub mod OfChannel
+pub mod OfHearing
 pub mod OfLentHeader
 pub mod OfLentReader
 pub mod CasesHold
@@ -17,4 +17,3 @@ pub mod Demand1
 pub mod Wrong
 pub mod OfText
 pub mod OfListing
-pub mod OfWords

@@ -5,8 +5,18 @@ use Prim.Native.Nat.{ℕ}
 use native.Mathlib.Omega.{arith}
 use Rattle.uslp_checksum.specs.Checksum.{bit, step, feed, lows, bits, checksumOf}
 use Rattle.uslp_checksum.proofs as checksum
-use Rattle.uslp_demands.specs.Promise.{at, Allows, Settles}
+use Rattle.uslp_demands.specs.Promise.{Function, at, Allows, Settles}
 use Rattle.uslp_demands.proofs.Alike.{alike}
+
+-- the functions, each with its promise
+abbrev fn-checksum : Function
+fn-checksum = record { lifetimes = _; params = checksum.checksum.Kinds.ps; result = checksum.checksum.Kinds.r; asks = checksum.checksum.Reads.Pre; learnt = checksum.checksum.Reads.Learnt }
+
+abbrev fn-checksum-bitwise : Function
+fn-checksum-bitwise = record { lifetimes = _; params = checksum.checksum_bitwise.Kinds.ps; result = checksum.checksum_bitwise.Kinds.r; asks = checksum.checksum_bitwise.Reads.Pre; learnt = checksum.checksum_bitwise.Reads.Learnt }
+
+abbrev fn-update : Function
+fn-update = record { lifetimes = _; params = checksum.update.Kinds.ps; result = checksum.update.Kinds.r; asks = checksum.update.Reads.Pre; learnt = checksum.update.Reads.Learnt }
 
 -- the nine octets of the catalogue's check value
 abbrev digits : List ℕ
@@ -16,37 +26,37 @@ check-value : checksumOf digits ≡ 0x29B1
 unfolding checksumOf feed bits lows bit step
 check-value = refl
 
-pub checksum-settles : Settles checksum.checksum.Kinds.ps checksum.checksum.Kinds.r checksum.checksum.Reads.Pre checksum.checksum.Reads.Learnt
+pub checksum-settles : Settles fn-checksum
 checksum-settles = record { total = λ κs a. tt; same = λ κs a x y s t. alike (s ∙ sym t) refl }
 
 -- starts from 0
-pub checksum-zero : Allows checksum.checksum.Kinds.ps checksum.checksum.Kinds.r checksum.checksum.Reads.Learnt ([], tt) (at digits, tt) (0x31C3, (tt, tt)) → ⊥
+pub checksum-zero : Allows fn-checksum ([], tt) (at digits, tt) (0x31C3, (tt, tt)) → ⊥
 checksum-zero e = omega (arith, check-value)
 
 -- inverts the register at the end
-pub checksum-inverted : Allows checksum.checksum.Kinds.ps checksum.checksum.Kinds.r checksum.checksum.Reads.Learnt ([], tt) (at digits, tt) (0xD64E, (tt, tt)) → ⊥
+pub checksum-inverted : Allows fn-checksum ([], tt) (at digits, tt) (0xD64E, (tt, tt)) → ⊥
 checksum-inverted e = omega (arith, check-value)
 
-pub checksum-bitwise-settles : Settles checksum.checksum_bitwise.Kinds.ps checksum.checksum_bitwise.Kinds.r checksum.checksum_bitwise.Reads.Pre checksum.checksum_bitwise.Reads.Learnt
+pub checksum-bitwise-settles : Settles fn-checksum-bitwise
 checksum-bitwise-settles = record { total = λ κs a. tt; same = λ κs a x y s t. alike (s ∙ sym t) refl }
 
 -- starts from 0
-pub checksum-bitwise-zero : Allows checksum.checksum_bitwise.Kinds.ps checksum.checksum_bitwise.Kinds.r checksum.checksum_bitwise.Reads.Learnt ([], tt) (at digits, tt) (0x31C3, (tt, tt)) → ⊥
+pub checksum-bitwise-zero : Allows fn-checksum-bitwise ([], tt) (at digits, tt) (0x31C3, (tt, tt)) → ⊥
 checksum-bitwise-zero e = omega (arith, check-value)
 
 -- inverts the register at the end
-pub checksum-bitwise-inverted : Allows checksum.checksum_bitwise.Kinds.ps checksum.checksum_bitwise.Kinds.r checksum.checksum_bitwise.Reads.Learnt ([], tt) (at digits, tt) (0xD64E, (tt, tt)) → ⊥
+pub checksum-bitwise-inverted : Allows fn-checksum-bitwise ([], tt) (at digits, tt) (0xD64E, (tt, tt)) → ⊥
 checksum-bitwise-inverted e = omega (arith, check-value)
 
-pub update-settles : Settles checksum.update.Kinds.ps checksum.update.Kinds.r checksum.update.Reads.Pre checksum.update.Reads.Learnt
+pub update-settles : Settles fn-update
 update-settles = record { total = λ κs a. tt; same = λ κs a x y s t. alike (s ∙ sym t) refl }
 
 -- keeps the register
-pub update-deaf : Allows checksum.update.Kinds.ps checksum.update.Kinds.r checksum.update.Reads.Learnt ([], tt) (0, (at (1 ∷ []), tt)) (0, (tt, (tt, tt))) → ⊥
+pub update-deaf : Allows fn-update ([], tt) (0, (at (1 ∷ []), tt)) (0, (tt, (tt, tt))) → ⊥
 unfolding feed bits lows bit step
 update-deaf e = omega arith
 
 -- starts anew from all ones
-pub update-anew : Allows checksum.update.Kinds.ps checksum.update.Kinds.r checksum.update.Reads.Learnt ([], tt) (0, (at [], tt)) (0xFFFF, (tt, (tt, tt))) → ⊥
+pub update-anew : Allows fn-update ([], tt) (0, (at [], tt)) (0xFFFF, (tt, (tt, tt))) → ⊥
 unfolding feed bits
 update-anew e = omega arith

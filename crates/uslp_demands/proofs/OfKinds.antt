@@ -14,136 +14,173 @@ use Rattle.uslp_kinds.specs.declared.UslpProtocolId.the-variants.{UserDefinedOc
 use Rattle.uslp_kinds.specs.declared.Refusal.the-variants.{BadProtocol}
 use Rattle.uslp_kinds.specs.declared.ProtocolIdAnswer.the-variants.{Done, Refused}
 use Rattle.uslp_kinds.proofs as kinds
-use Rattle.uslp_demands.specs.Promise.{Allows, Settles}
+use Rattle.uslp_demands.specs.Promise.{Function, Allows, Settles}
 use Rattle.uslp_demands.proofs.Alike.{alike}
 
-pub source-or-dest-from-settles : Settles kinds.SourceOrDestField.from_number.Kinds.ps kinds.SourceOrDestField.from_number.Kinds.r kinds.SourceOrDestField.from_number.Reads.Pre kinds.SourceOrDestField.from_number.Reads.Learnt
+-- the functions, each with its promise
+abbrev fn-from-number : Function
+fn-from-number = record { lifetimes = _; params = kinds.SourceOrDestField.from_number.Kinds.ps; result = kinds.SourceOrDestField.from_number.Kinds.r; asks = kinds.SourceOrDestField.from_number.Reads.Pre; learnt = kinds.SourceOrDestField.from_number.Reads.Learnt }
+
+abbrev fn-number : Function
+fn-number = record { lifetimes = _; params = kinds.SourceOrDestField.number.Kinds.ps; result = kinds.SourceOrDestField.number.Kinds.r; asks = kinds.SourceOrDestField.number.Reads.Pre; learnt = kinds.SourceOrDestField.number.Reads.Learnt }
+
+abbrev fn-bypass-sequence-control-flag-from-number : Function
+fn-bypass-sequence-control-flag-from-number = record { lifetimes = _; params = kinds.BypassSequenceControlFlag.from_number.Kinds.ps; result = kinds.BypassSequenceControlFlag.from_number.Kinds.r; asks = kinds.BypassSequenceControlFlag.from_number.Reads.Pre; learnt = kinds.BypassSequenceControlFlag.from_number.Reads.Learnt }
+
+abbrev fn-bypass-sequence-control-flag-number : Function
+fn-bypass-sequence-control-flag-number = record { lifetimes = _; params = kinds.BypassSequenceControlFlag.number.Kinds.ps; result = kinds.BypassSequenceControlFlag.number.Kinds.r; asks = kinds.BypassSequenceControlFlag.number.Reads.Pre; learnt = kinds.BypassSequenceControlFlag.number.Reads.Learnt }
+
+abbrev fn-protocol-control-command-flag-from-number : Function
+fn-protocol-control-command-flag-from-number = record { lifetimes = _; params = kinds.ProtocolControlCommandFlag.from_number.Kinds.ps; result = kinds.ProtocolControlCommandFlag.from_number.Kinds.r; asks = kinds.ProtocolControlCommandFlag.from_number.Reads.Pre; learnt = kinds.ProtocolControlCommandFlag.from_number.Reads.Learnt }
+
+abbrev fn-protocol-control-command-flag-number : Function
+fn-protocol-control-command-flag-number = record { lifetimes = _; params = kinds.ProtocolControlCommandFlag.number.Kinds.ps; result = kinds.ProtocolControlCommandFlag.number.Kinds.r; asks = kinds.ProtocolControlCommandFlag.number.Reads.Pre; learnt = kinds.ProtocolControlCommandFlag.number.Reads.Learnt }
+
+abbrev fn-construction-rule-from-number : Function
+fn-construction-rule-from-number = record { lifetimes = _; params = kinds.ConstructionRule.from_number.Kinds.ps; result = kinds.ConstructionRule.from_number.Kinds.r; asks = kinds.ConstructionRule.from_number.Reads.Pre; learnt = kinds.ConstructionRule.from_number.Reads.Learnt }
+
+abbrev fn-construction-rule-number : Function
+fn-construction-rule-number = record { lifetimes = _; params = kinds.ConstructionRule.number.Kinds.ps; result = kinds.ConstructionRule.number.Kinds.r; asks = kinds.ConstructionRule.number.Reads.Pre; learnt = kinds.ConstructionRule.number.Reads.Learnt }
+
+abbrev fn-applicable-to-fixed-len-tfdz : Function
+fn-applicable-to-fixed-len-tfdz = record { lifetimes = _; params = kinds.ConstructionRule.applicable_to_fixed_len_tfdz.Kinds.ps; result = kinds.ConstructionRule.applicable_to_fixed_len_tfdz.Kinds.r; asks = kinds.ConstructionRule.applicable_to_fixed_len_tfdz.Reads.Pre; learnt = kinds.ConstructionRule.applicable_to_fixed_len_tfdz.Reads.Learnt }
+
+abbrev fn-uslp-protocol-id-from-number : Function
+fn-uslp-protocol-id-from-number = record { lifetimes = _; params = kinds.UslpProtocolId.from_number.Kinds.ps; result = kinds.UslpProtocolId.from_number.Kinds.r; asks = kinds.UslpProtocolId.from_number.Reads.Pre; learnt = kinds.UslpProtocolId.from_number.Reads.Learnt }
+
+abbrev fn-uslp-protocol-id-number : Function
+fn-uslp-protocol-id-number = record { lifetimes = _; params = kinds.UslpProtocolId.number.Kinds.ps; result = kinds.UslpProtocolId.number.Kinds.r; asks = kinds.UslpProtocolId.number.Reads.Pre; learnt = kinds.UslpProtocolId.number.Reads.Learnt }
+
+abbrev fn-refusal-number : Function
+fn-refusal-number = record { lifetimes = _; params = kinds.Refusal.number.Kinds.ps; result = kinds.Refusal.number.Kinds.r; asks = kinds.Refusal.number.Reads.Pre; learnt = kinds.Refusal.number.Reads.Learnt }
+
+pub source-or-dest-from-settles : Settles fn-from-number
 source-or-dest-from-settles = record { total = λ κs a. tt; same = λ κs a x y s t. alike (s ∙ sym t) refl }
 
 -- one case for all numbers
-pub source-or-dest-from-one : Allows kinds.SourceOrDestField.from_number.Kinds.ps kinds.SourceOrDestField.from_number.Kinds.r kinds.SourceOrDestField.from_number.Reads.Learnt tt (1, tt) (Source, (tt, tt)) → ⊥
+pub source-or-dest-from-one : Allows fn-from-number tt (1, tt) (Source, (tt, tt)) → ⊥
 source-or-dest-from-one e = let z : _≡_ {A = ℕ} 0 1 = cc in omega arith
 
 -- any number but 0 taken as set
-pub source-or-dest-from-above : Allows kinds.SourceOrDestField.from_number.Kinds.ps kinds.SourceOrDestField.from_number.Kinds.r kinds.SourceOrDestField.from_number.Reads.Learnt tt (2, tt) (Dest, (tt, tt)) → ⊥
+pub source-or-dest-from-above : Allows fn-from-number tt (2, tt) (Dest, (tt, tt)) → ⊥
 source-or-dest-from-above e = let z : _≡_ {A = ℕ} 0 1 = cc in omega arith
 
-pub source-or-dest-number-settles : Settles kinds.SourceOrDestField.number.Kinds.ps kinds.SourceOrDestField.number.Kinds.r kinds.SourceOrDestField.number.Reads.Pre kinds.SourceOrDestField.number.Reads.Learnt
+pub source-or-dest-number-settles : Settles fn-number
 source-or-dest-number-settles = record { total = λ κs a. tt; same = λ κs a x y s t. alike (s ∙ sym t) refl }
 
 -- 0 for both
-pub source-or-dest-number-zero : Allows kinds.SourceOrDestField.number.Kinds.ps kinds.SourceOrDestField.number.Kinds.r kinds.SourceOrDestField.number.Reads.Learnt tt (Dest, tt) (0, (tt, tt)) → ⊥
+pub source-or-dest-number-zero : Allows fn-number tt (Dest, tt) (0, (tt, tt)) → ⊥
 source-or-dest-number-zero e = omega arith
 
 -- the two swapped
-pub source-or-dest-number-swapped : Allows kinds.SourceOrDestField.number.Kinds.ps kinds.SourceOrDestField.number.Kinds.r kinds.SourceOrDestField.number.Reads.Learnt tt (Source, tt) (1, (tt, tt)) → ⊥
+pub source-or-dest-number-swapped : Allows fn-number tt (Source, tt) (1, (tt, tt)) → ⊥
 source-or-dest-number-swapped e = omega arith
 
-pub bypass-from-settles : Settles kinds.BypassSequenceControlFlag.from_number.Kinds.ps kinds.BypassSequenceControlFlag.from_number.Kinds.r kinds.BypassSequenceControlFlag.from_number.Reads.Pre kinds.BypassSequenceControlFlag.from_number.Reads.Learnt
+pub bypass-from-settles : Settles fn-bypass-sequence-control-flag-from-number
 bypass-from-settles = record { total = λ κs a. tt; same = λ κs a x y s t. alike (s ∙ sym t) refl }
 
 -- one case for all numbers
-pub bypass-from-one : Allows kinds.BypassSequenceControlFlag.from_number.Kinds.ps kinds.BypassSequenceControlFlag.from_number.Kinds.r kinds.BypassSequenceControlFlag.from_number.Reads.Learnt tt (1, tt) (SequenceControlledQoS, (tt, tt)) → ⊥
+pub bypass-from-one : Allows fn-bypass-sequence-control-flag-from-number tt (1, tt) (SequenceControlledQoS, (tt, tt)) → ⊥
 bypass-from-one e = let z : _≡_ {A = ℕ} 0 1 = cc in omega arith
 
 -- any number but 0 taken as set
-pub bypass-from-above : Allows kinds.BypassSequenceControlFlag.from_number.Kinds.ps kinds.BypassSequenceControlFlag.from_number.Kinds.r kinds.BypassSequenceControlFlag.from_number.Reads.Learnt tt (2, tt) (ExpeditedQoS, (tt, tt)) → ⊥
+pub bypass-from-above : Allows fn-bypass-sequence-control-flag-from-number tt (2, tt) (ExpeditedQoS, (tt, tt)) → ⊥
 bypass-from-above e = let z : _≡_ {A = ℕ} 0 1 = cc in omega arith
 
-pub bypass-number-settles : Settles kinds.BypassSequenceControlFlag.number.Kinds.ps kinds.BypassSequenceControlFlag.number.Kinds.r kinds.BypassSequenceControlFlag.number.Reads.Pre kinds.BypassSequenceControlFlag.number.Reads.Learnt
+pub bypass-number-settles : Settles fn-bypass-sequence-control-flag-number
 bypass-number-settles = record { total = λ κs a. tt; same = λ κs a x y s t. alike (s ∙ sym t) refl }
 
 -- 0 for both
-pub bypass-number-zero : Allows kinds.BypassSequenceControlFlag.number.Kinds.ps kinds.BypassSequenceControlFlag.number.Kinds.r kinds.BypassSequenceControlFlag.number.Reads.Learnt tt (ExpeditedQoS, tt) (0, (tt, tt)) → ⊥
+pub bypass-number-zero : Allows fn-bypass-sequence-control-flag-number tt (ExpeditedQoS, tt) (0, (tt, tt)) → ⊥
 bypass-number-zero e = omega arith
 
 -- the two swapped
-pub bypass-number-swapped : Allows kinds.BypassSequenceControlFlag.number.Kinds.ps kinds.BypassSequenceControlFlag.number.Kinds.r kinds.BypassSequenceControlFlag.number.Reads.Learnt tt (SequenceControlledQoS, tt) (1, (tt, tt)) → ⊥
+pub bypass-number-swapped : Allows fn-bypass-sequence-control-flag-number tt (SequenceControlledQoS, tt) (1, (tt, tt)) → ⊥
 bypass-number-swapped e = omega arith
 
-pub command-from-settles : Settles kinds.ProtocolControlCommandFlag.from_number.Kinds.ps kinds.ProtocolControlCommandFlag.from_number.Kinds.r kinds.ProtocolControlCommandFlag.from_number.Reads.Pre kinds.ProtocolControlCommandFlag.from_number.Reads.Learnt
+pub command-from-settles : Settles fn-protocol-control-command-flag-from-number
 command-from-settles = record { total = λ κs a. tt; same = λ κs a x y s t. alike (s ∙ sym t) refl }
 
 -- one case for all numbers
-pub command-from-one : Allows kinds.ProtocolControlCommandFlag.from_number.Kinds.ps kinds.ProtocolControlCommandFlag.from_number.Kinds.r kinds.ProtocolControlCommandFlag.from_number.Reads.Learnt tt (1, tt) (TfdfContainsUserData, (tt, tt)) → ⊥
+pub command-from-one : Allows fn-protocol-control-command-flag-from-number tt (1, tt) (TfdfContainsUserData, (tt, tt)) → ⊥
 command-from-one e = let z : _≡_ {A = ℕ} 0 1 = cc in omega arith
 
 -- any number but 0 taken as set
-pub command-from-above : Allows kinds.ProtocolControlCommandFlag.from_number.Kinds.ps kinds.ProtocolControlCommandFlag.from_number.Kinds.r kinds.ProtocolControlCommandFlag.from_number.Reads.Learnt tt (2, tt) (TfdfContainsProtocolInfo, (tt, tt)) → ⊥
+pub command-from-above : Allows fn-protocol-control-command-flag-from-number tt (2, tt) (TfdfContainsProtocolInfo, (tt, tt)) → ⊥
 command-from-above e = let z : _≡_ {A = ℕ} 0 1 = cc in omega arith
 
-pub command-number-settles : Settles kinds.ProtocolControlCommandFlag.number.Kinds.ps kinds.ProtocolControlCommandFlag.number.Kinds.r kinds.ProtocolControlCommandFlag.number.Reads.Pre kinds.ProtocolControlCommandFlag.number.Reads.Learnt
+pub command-number-settles : Settles fn-protocol-control-command-flag-number
 command-number-settles = record { total = λ κs a. tt; same = λ κs a x y s t. alike (s ∙ sym t) refl }
 
 -- 0 for both
-pub command-number-zero : Allows kinds.ProtocolControlCommandFlag.number.Kinds.ps kinds.ProtocolControlCommandFlag.number.Kinds.r kinds.ProtocolControlCommandFlag.number.Reads.Learnt tt (TfdfContainsProtocolInfo, tt) (0, (tt, tt)) → ⊥
+pub command-number-zero : Allows fn-protocol-control-command-flag-number tt (TfdfContainsProtocolInfo, tt) (0, (tt, tt)) → ⊥
 command-number-zero e = omega arith
 
 -- the two swapped
-pub command-number-swapped : Allows kinds.ProtocolControlCommandFlag.number.Kinds.ps kinds.ProtocolControlCommandFlag.number.Kinds.r kinds.ProtocolControlCommandFlag.number.Reads.Learnt tt (TfdfContainsUserData, tt) (1, (tt, tt)) → ⊥
+pub command-number-swapped : Allows fn-protocol-control-command-flag-number tt (TfdfContainsUserData, tt) (1, (tt, tt)) → ⊥
 command-number-swapped e = omega arith
 
-pub rule-from-settles : Settles kinds.ConstructionRule.from_number.Kinds.ps kinds.ConstructionRule.from_number.Kinds.r kinds.ConstructionRule.from_number.Reads.Pre kinds.ConstructionRule.from_number.Reads.Learnt
+pub rule-from-settles : Settles fn-construction-rule-from-number
 rule-from-settles = record { total = λ κs a. tt; same = λ κs a x y s t. alike (s ∙ sym t) refl }
 
 -- numbers above 7 clamped
-pub rule-from-clamped : Allows kinds.ConstructionRule.from_number.Kinds.ps kinds.ConstructionRule.from_number.Kinds.r kinds.ConstructionRule.from_number.Reads.Learnt tt (8, tt) (NoSegmentation, (tt, tt)) → ⊥
+pub rule-from-clamped : Allows fn-construction-rule-from-number tt (8, tt) (NoSegmentation, (tt, tt)) → ⊥
 rule-from-clamped e = let z : _≡_ {A = ℕ} 0 1 = cc in omega arith
 
 -- the next rule
-pub rule-from-next : Allows kinds.ConstructionRule.from_number.Kinds.ps kinds.ConstructionRule.from_number.Kinds.r kinds.ConstructionRule.from_number.Reads.Learnt tt (6, tt) (NoSegmentation, (tt, tt)) → ⊥
+pub rule-from-next : Allows fn-construction-rule-from-number tt (6, tt) (NoSegmentation, (tt, tt)) → ⊥
 rule-from-next e = let z : _≡_ {A = ℕ} 0 1 = cc in omega arith
 
-pub rule-number-settles : Settles kinds.ConstructionRule.number.Kinds.ps kinds.ConstructionRule.number.Kinds.r kinds.ConstructionRule.number.Reads.Pre kinds.ConstructionRule.number.Reads.Learnt
+pub rule-number-settles : Settles fn-construction-rule-number
 rule-number-settles = record { total = λ κs a. tt; same = λ κs a x y s t. alike (s ∙ sym t) refl }
 
 -- 1 for the last rule
-pub rule-number-bit : Allows kinds.ConstructionRule.number.Kinds.ps kinds.ConstructionRule.number.Kinds.r kinds.ConstructionRule.number.Reads.Learnt tt (NoSegmentation, tt) (1, (tt, tt)) → ⊥
+pub rule-number-bit : Allows fn-construction-rule-number tt (NoSegmentation, tt) (1, (tt, tt)) → ⊥
 rule-number-bit e = omega arith
 
 -- counted from 1
-pub rule-number-shifted : Allows kinds.ConstructionRule.number.Kinds.ps kinds.ConstructionRule.number.Kinds.r kinds.ConstructionRule.number.Reads.Learnt tt (PacketSpanningMultipleFrames, tt) (1, (tt, tt)) → ⊥
+pub rule-number-shifted : Allows fn-construction-rule-number tt (PacketSpanningMultipleFrames, tt) (1, (tt, tt)) → ⊥
 rule-number-shifted e = omega arith
 
-pub applicable-settles : Settles kinds.ConstructionRule.applicable_to_fixed_len_tfdz.Kinds.ps kinds.ConstructionRule.applicable_to_fixed_len_tfdz.Kinds.r kinds.ConstructionRule.applicable_to_fixed_len_tfdz.Reads.Pre kinds.ConstructionRule.applicable_to_fixed_len_tfdz.Reads.Learnt
+pub applicable-settles : Settles fn-applicable-to-fixed-len-tfdz
 applicable-settles = record { total = λ κs a. tt; same = λ κs a x y s t. alike (s ∙ sym t) refl }
 
 -- rule 3 taken as fixed
-pub applicable-octet-stream : Allows kinds.ConstructionRule.applicable_to_fixed_len_tfdz.Kinds.ps kinds.ConstructionRule.applicable_to_fixed_len_tfdz.Kinds.r kinds.ConstructionRule.applicable_to_fixed_len_tfdz.Reads.Learnt tt (OctetStream, tt) (true, (tt, tt)) → ⊥
+pub applicable-octet-stream : Allows fn-applicable-to-fixed-len-tfdz tt (OctetStream, tt) (true, (tt, tt)) → ⊥
 applicable-octet-stream e = let z : _≡_ {A = ℕ} 0 1 = cc in omega arith
 
 -- no rule taken as fixed
-pub applicable-none : Allows kinds.ConstructionRule.applicable_to_fixed_len_tfdz.Kinds.ps kinds.ConstructionRule.applicable_to_fixed_len_tfdz.Kinds.r kinds.ConstructionRule.applicable_to_fixed_len_tfdz.Reads.Learnt tt (PacketSpanningMultipleFrames, tt) (false, (tt, tt)) → ⊥
+pub applicable-none : Allows fn-applicable-to-fixed-len-tfdz tt (PacketSpanningMultipleFrames, tt) (false, (tt, tt)) → ⊥
 applicable-none e = let z : _≡_ {A = ℕ} 0 1 = cc in omega arith
 
-pub protocol-from-settles : Settles kinds.UslpProtocolId.from_number.Kinds.ps kinds.UslpProtocolId.from_number.Kinds.r kinds.UslpProtocolId.from_number.Reads.Pre kinds.UslpProtocolId.from_number.Reads.Learnt
+pub protocol-from-settles : Settles fn-uslp-protocol-id-from-number
 protocol-from-settles = record { total = λ κs a. tt; same = λ κs a x y s t. alike (one-to-one paperProtocol (back Done Refused) protocol-back (s ∙ sym t)) refl }
 
 -- an unknown id taken as idle
-pub protocol-from-idle : Allows kinds.UslpProtocolId.from_number.Kinds.ps kinds.UslpProtocolId.from_number.Kinds.r kinds.UslpProtocolId.from_number.Reads.Learnt tt (9, tt) (Done Idle, (tt, tt)) → ⊥
+pub protocol-from-idle : Allows fn-uslp-protocol-id-from-number tt (9, tt) (Done Idle, (tt, tt)) → ⊥
 protocol-from-idle e = let z : _≡_ {A = ℕ} 0 1 = cc in omega arith
 
 -- 31 refused as the others above 8
-pub protocol-from-refused : Allows kinds.UslpProtocolId.from_number.Kinds.ps kinds.UslpProtocolId.from_number.Kinds.r kinds.UslpProtocolId.from_number.Reads.Learnt tt (31, tt) (Refused (BadProtocol 31), (tt, tt)) → ⊥
+pub protocol-from-refused : Allows fn-uslp-protocol-id-from-number tt (31, tt) (Refused (BadProtocol 31), (tt, tt)) → ⊥
 protocol-from-refused e = let z : _≡_ {A = ℕ} 0 1 = cc in omega arith
 
-pub protocol-number-settles : Settles kinds.UslpProtocolId.number.Kinds.ps kinds.UslpProtocolId.number.Kinds.r kinds.UslpProtocolId.number.Reads.Pre kinds.UslpProtocolId.number.Reads.Learnt
+pub protocol-number-settles : Settles fn-uslp-protocol-id-number
 protocol-number-settles = record { total = λ κs a. tt; same = λ κs a x y s t. alike (s ∙ sym t) refl }
 
 -- idle numbered on from 8
-pub protocol-number-nine : Allows kinds.UslpProtocolId.number.Kinds.ps kinds.UslpProtocolId.number.Kinds.r kinds.UslpProtocolId.number.Reads.Learnt tt (Idle, tt) (9, (tt, tt)) → ⊥
+pub protocol-number-nine : Allows fn-uslp-protocol-id-number tt (Idle, tt) (9, (tt, tt)) → ⊥
 protocol-number-nine e = omega arith
 
 -- numbered in the order of the Rust's text
-pub protocol-number-order : Allows kinds.UslpProtocolId.number.Kinds.ps kinds.UslpProtocolId.number.Kinds.r kinds.UslpProtocolId.number.Reads.Learnt tt (UserDefinedOctetStream, tt) (5, (tt, tt)) → ⊥
+pub protocol-number-order : Allows fn-uslp-protocol-id-number tt (UserDefinedOctetStream, tt) (5, (tt, tt)) → ⊥
 protocol-number-order e = omega arith
 
-pub refusal-number-settles : Settles kinds.Refusal.number.Kinds.ps kinds.Refusal.number.Kinds.r kinds.Refusal.number.Reads.Pre kinds.Refusal.number.Reads.Learnt
+pub refusal-number-settles : Settles fn-refusal-number
 refusal-number-settles = record { total = λ κs a. tt; same = λ κs a x y s t. alike (s ∙ sym t) refl }
 
 -- counted from 0; what the refusal carries
-pub refusal-number-zero : Allows kinds.Refusal.number.Kinds.ps kinds.Refusal.number.Kinds.r kinds.Refusal.number.Reads.Learnt tt (BadProtocol 9, tt) (4, (tt, tt)) → ⊥
+pub refusal-number-zero : Allows fn-refusal-number tt (BadProtocol 9, tt) (4, (tt, tt)) → ⊥
 refusal-number-zero e = omega arith
 
-pub refusal-number-carried : Allows kinds.Refusal.number.Kinds.ps kinds.Refusal.number.Kinds.r kinds.Refusal.number.Reads.Learnt tt (BadProtocol 9, tt) (9, (tt, tt)) → ⊥
+pub refusal-number-carried : Allows fn-refusal-number tt (BadProtocol 9, tt) (9, (tt, tt)) → ⊥
 refusal-number-carried e = omega arith

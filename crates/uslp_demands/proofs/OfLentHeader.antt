@@ -13,11 +13,21 @@ use Rattle.uslp_primary_header.specs.declared.PrimaryHeader.{PrimaryHeader}
 use Rattle.uslp_primary_header.specs.declared.HeaderAnswer.the-variants as header-answer
 use Rattle.uslp_lent.specs.declared.setters.Decided.{Decided}
 use Rattle.uslp_lent.proofs.setters as setters
-use Rattle.uslp_demands.specs.Promise.{Allows, Settles}
+use Rattle.uslp_demands.specs.Promise.{Function, Allows, Settles}
 use Rattle.uslp_demands.specs.Clause as clause
 use Rattle.uslp_roundtrip.specs.Samples.{some, made}
 use Rattle.uslp_demands.proofs.Alike.{alike, done-alike}
 use Rattle.uslp_demands.proofs.Facts.{by-fact, shut}
+
+-- the functions, each with its promise
+abbrev fn-settle : Function
+fn-settle = record { lifetimes = _; params = setters.settle.Kinds.ps; result = setters.settle.Kinds.r; asks = setters.settle.Reads.Pre; learnt = setters.settle.Reads.Learnt }
+
+abbrev fn-decide-frame-len : Function
+fn-decide-frame-len = record { lifetimes = _; params = setters.decide_frame_len.Kinds.ps; result = setters.decide_frame_len.Kinds.r; asks = setters.decide_frame_len.Reads.Pre; learnt = setters.decide_frame_len.Reads.Learnt }
+
+abbrev fn-decide-vc-frame-count : Function
+fn-decide-vc-frame-count = record { lifetimes = _; params = setters.decide_vc_frame_count.Kinds.ps; result = setters.decide_vc_frame_count.Kinds.r; asks = setters.decide_vc_frame_count.Reads.Pre; learnt = setters.decide_vc_frame_count.Reads.Learnt }
 
 -- a header that is lent
 abbrev lent : PrimaryHeader → RefT PrimaryHeader
@@ -26,40 +36,40 @@ lent h = record { ptr = (0, 0); name = 0; now = h }
 decided-alike : {d e : Decided} → d .header ≡ e .header → paperDone (d .answer) ≡ paperDone (e .answer) → d ≡ e
 decided-alike {d} {e} h a = λ i. record { header = h i; answer = done-alike {x = d .answer} {y = e .answer} a i }
 
-pub settle-settles : Settles setters.settle.Kinds.ps setters.settle.Kinds.r setters.settle.Reads.Pre setters.settle.Reads.Learnt
+pub settle-settles : Settles fn-settle
 settle-settles = record { total = λ κs a. tt; same = λ κs a x y s t. alike (decided-alike {d = x .0} {e = y .0} (s .0 ∙ sym (t .0)) (s .1 ∙ sym (t .1))) refl }
 
 -- leaves the header that it found
-pub settle-idle : Allows setters.settle.Kinds.ps setters.settle.Kinds.r setters.settle.Reads.Learnt tt (some, (header-answer.Done made, tt)) (record { header = some; answer = Done }, (tt, (tt, tt))) → ⊥
+pub settle-idle : Allows fn-settle tt (some, (header-answer.Done made, tt)) (record { header = some; answer = Done }, (tt, (tt, tt))) → ⊥
 settle-idle e = let z : _≡_ {A = ℕ} 7 0 = ap (λ (h : PrimaryHeader). h .«vc_frame_count») (e .0) in omega arith
 
 -- says done of a refusal
-pub settle-says-done : Allows setters.settle.Kinds.ps setters.settle.Kinds.r setters.settle.Reads.Learnt tt (some, (header-answer.Refused TooLong, tt)) (record { header = some; answer = Done }, (tt, (tt, tt))) → ⊥
+pub settle-says-done : Allows fn-settle tt (some, (header-answer.Refused TooLong, tt)) (record { header = some; answer = Done }, (tt, (tt, tt))) → ⊥
 settle-says-done e = not-done (sym (e .1))
 
-pub decide-frame-len-settles : Settles setters.decide_frame_len.Kinds.ps setters.decide_frame_len.Kinds.r setters.decide_frame_len.Reads.Pre setters.decide_frame_len.Reads.Learnt
+pub decide-frame-len-settles : Settles fn-decide-frame-len
 decide-frame-len-settles = record { total = λ κs a. tt; same = λ κs a x y s t. alike (decided-alike {d = x .0} {e = y .0} (s .0 ∙ sym (t .0)) (s .1 ∙ sym (t .1))) refl }
 
 -- says done and leaves the old length
-pub decide-frame-len-idle : Allows setters.decide_frame_len.Kinds.ps setters.decide_frame_len.Kinds.r setters.decide_frame_len.Reads.Learnt tt (some, (12, tt)) (record { header = some; answer = Done }, (tt, (tt, tt))) → ⊥
+pub decide-frame-len-idle : Allows fn-decide-frame-len tt (some, (12, tt)) (record { header = some; answer = Done }, (tt, (tt, tt))) → ⊥
 unfolding lengthSetting
 decide-frame-len-idle e = let z : _≡_ {A = ℕ} 10 11 = ap (λ (h : PrimaryHeader). h .«frame_len_field») (e .0) in omega arith
 
 -- refuses 65,537 and leaves it wrapped
-pub decide-frame-len-wrapped : Allows setters.decide_frame_len.Kinds.ps setters.decide_frame_len.Kinds.r setters.decide_frame_len.Reads.Learnt tt (some, (65537, tt)) (record { header = withLength 1 some; answer = Refused TooLong }, (tt, (tt, tt))) → ⊥
+pub decide-frame-len-wrapped : Allows fn-decide-frame-len tt (some, (65537, tt)) (record { header = withLength 1 some; answer = Refused TooLong }, (tt, (tt, tt))) → ⊥
 unfolding lengthSetting
 decide-frame-len-wrapped e = let z : _≡_ {A = ℕ} 0 10 = ap (λ (h : PrimaryHeader). h .«frame_len_field») (e .0) in omega arith
 
-pub decide-vc-frame-count-settles : Settles setters.decide_vc_frame_count.Kinds.ps setters.decide_vc_frame_count.Kinds.r setters.decide_vc_frame_count.Reads.Pre setters.decide_vc_frame_count.Reads.Learnt
+pub decide-vc-frame-count-settles : Settles fn-decide-vc-frame-count
 decide-vc-frame-count-settles = record { total = λ κs a. tt; same = λ κs a x y s t. alike (decided-alike {d = x .0} {e = y .0} (s .0 ∙ sym (t .0)) (s .1 ∙ sym (t .1))) refl }
 
 -- keeps the header's own width
-pub decide-vc-frame-count-own-width : Allows setters.decide_vc_frame_count.Kinds.ps setters.decide_vc_frame_count.Kinds.r setters.decide_vc_frame_count.Reads.Learnt tt (some, (2, (9, tt))) (record { header = withCount 1 9 some; answer = Done }, (tt, (tt, (tt, tt)))) → ⊥
+pub decide-vc-frame-count-own-width : Allows fn-decide-vc-frame-count tt (some, (2, (9, tt))) (record { header = withCount 1 9 some; answer = Done }, (tt, (tt, (tt, tt)))) → ⊥
 unfolding countSetting
 decide-vc-frame-count-own-width e = let z : _≡_ {A = ℕ} 1 2 = ap (λ (h : PrimaryHeader). h .«vc_frame_count_len») (e .0) in omega arith
 
 -- refuses 256 in one octet and leaves it set
-pub decide-vc-frame-count-set : Allows setters.decide_vc_frame_count.Kinds.ps setters.decide_vc_frame_count.Kinds.r setters.decide_vc_frame_count.Reads.Learnt tt (some, (1, (256, tt))) (record { header = withCount 1 256 some; answer = Refused (BadCount 256 1) }, (tt, (tt, (tt, tt)))) → ⊥
+pub decide-vc-frame-count-set : Allows fn-decide-vc-frame-count tt (some, (1, (256, tt))) (record { header = withCount 1 256 some; answer = Refused (BadCount 256 1) }, (tt, (tt, (tt, tt)))) → ⊥
 unfolding countSetting
 decide-vc-frame-count-set e = let z : _≡_ {A = ℕ} 256 7 = ap (λ (h : PrimaryHeader). h .«vc_frame_count») (e .0) in omega arith
 

@@ -37,11 +37,15 @@ use Rattle.uslp_lent.proofs.Back.{id-back, role-back, ocf-back}
 use Rattle.uslp_lent.proofs.reader as lent
 use Rattle.uslp_lent.proofs.reader.TransferFrameReader as reader
 use Rattle.uslp_demands.specs.Promise as promise
-use Rattle.uslp_demands.specs.Promise.{at, Allows}
+use Rattle.uslp_demands.specs.Promise.{Function, at, Allows}
 use Rattle.uslp_demands.specs.Clause.{Settles, Shows, ShutsOut}
 use Rattle.uslp_roundtrip.specs.Samples.{some, made, spanning, octetsF, readF}
 use Rattle.uslp_demands.proofs.Alike.{alike}
 use Rattle.uslp_demands.proofs.Facts.{by-fact, shut}
+
+-- the functions, each with its promise
+abbrev fn-frame-data-len : Function
+fn-frame-data-len = record { lifetimes = _; params = lent.frame_data_len.Kinds.ps; result = lent.frame_data_len.Kinds.r; asks = lent.frame_data_len.Reads.Pre; learnt = lent.frame_data_len.Reads.Learnt }
 
 -- a reader that keeps the octets of frame F: it was read, or it was refused
 abbrev over : FrameAnswer → TransferFrameReader
@@ -196,15 +200,15 @@ pub frame-data-none : (r : RefT (List ℕ)) → now r ≡ [] → ShutsOut lent.f
 unfolding frameReading headerReading fieldReading
 frame-data-none r h = shut _ _ (λ e. let z : _≡_ {A = ℕ} 0 2 = ap length (sym h ∙ e) in omega arith)
 
-pub frame-data-len-settles : promise.Settles lent.frame_data_len.Kinds.ps lent.frame_data_len.Kinds.r lent.frame_data_len.Reads.Pre lent.frame_data_len.Reads.Learnt
+pub frame-data-len-settles : promise.Settles fn-frame-data-len
 frame-data-len-settles = record { total = λ κs a. tt; same = λ κs a x y s t. alike (s ∙ sym t) refl }
 
 -- the whole buffer
-pub frame-data-len-whole : Allows lent.frame_data_len.Kinds.ps lent.frame_data_len.Kinds.r lent.frame_data_len.Reads.Learnt ([], tt) (at octetsF, (false, tt)) (11, (tt, (tt, tt))) → ⊥
+pub frame-data-len-whole : Allows fn-frame-data-len ([], tt) (at octetsF, (false, tt)) (11, (tt, (tt, tt))) → ⊥
 unfolding frameReading headerReading fieldReading
 frame-data-len-whole e = omega arith
 
 -- 0 for all
-pub frame-data-len-zero : Allows lent.frame_data_len.Kinds.ps lent.frame_data_len.Kinds.r lent.frame_data_len.Reads.Learnt ([], tt) (at octetsF, (false, tt)) (0, (tt, (tt, tt))) → ⊥
+pub frame-data-len-zero : Allows fn-frame-data-len ([], tt) (at octetsF, (false, tt)) (0, (tt, (tt, tt))) → ⊥
 unfolding frameReading headerReading fieldReading
 frame-data-len-zero e = omega arith

@@ -13,20 +13,24 @@ use Rattle.uslp_reader.specs.Reader.{frameReading}
 use Rattle.uslp_text.specs.Text.{widthIn}
 use Rattle.uslp_listing.specs.Listing.{linesFrom, listing, listingOver}
 use Rattle.uslp_listing.proofs as listing-proofs
-use Rattle.uslp_demands.specs.Promise.{at, Allows, Settles}
+use Rattle.uslp_demands.specs.Promise.{Function, at, Allows, Settles}
 use Rattle.uslp_roundtrip.specs.Samples.{octetsF}
 use Rattle.uslp_demands.proofs.Alike.{alike}
 
-pub list-settles : Settles listing-proofs.list.Kinds.ps listing-proofs.list.Kinds.r listing-proofs.list.Reads.Pre listing-proofs.list.Reads.Learnt
+-- the functions, each with its promise
+abbrev fn-list : Function
+fn-list = record { lifetimes = _; params = listing-proofs.list.Kinds.ps; result = listing-proofs.list.Kinds.r; asks = listing-proofs.list.Reads.Pre; learnt = listing-proofs.list.Reads.Learnt }
+
+pub list-settles : Settles fn-list
 list-settles = record { total = λ κs a. tt; same = λ κs a x y s t. let e = leaving-one (s ∙ sym t) in alike (one-to-one paperLength (back length-answer.Done length-answer.Refused) length-back (e .0)) (λ i. (tt, (e .1 i, tt))) }
 
 -- takes a buffer of any length
-pub list-lax : Allows listing-proofs.list.Kinds.ps listing-proofs.list.Kinds.r listing-proofs.list.Reads.Learnt ([], ([], tt)) (at [], (at [], tt)) (length-answer.Done 0, (tt, ([], tt))) → ⊥
+pub list-lax : Allows fn-list ([], ([], tt)) (at [], (at [], tt)) (length-answer.Done 0, (tt, ([], tt))) → ⊥
 unfolding listingOver
 list-lax e = let d = leaving-one e .0 in let z : _≡_ {A = ℕ} 0 1 = cc in omega arith
 
 -- writes what fits of it
-pub list-part : Allows listing-proofs.list.Kinds.ps listing-proofs.list.Kinds.r listing-proofs.list.Reads.Learnt ([], ([], tt)) (at [], (at (0 ∷ []), tt)) (length-answer.Refused (ShortTarget 1 524400), (tt, (97 ∷ [], tt))) → ⊥
+pub list-part : Allows fn-list ([], ([], tt)) (at [], (at (0 ∷ []), tt)) (length-answer.Refused (ShortTarget 1 524400), (tt, (97 ∷ [], tt))) → ⊥
 unfolding listingOver
 list-part e = let d = leaving-one e .1 in let z : _≡_ {A = ℕ} 97 0 = cc in omega arith
 

@@ -20,111 +20,148 @@ use Rattle.uslp_reader.specs.declared.TransferFrame.{TransferFrame}
 use Rattle.uslp_reader.specs.declared.FrameAnswer.the-variants as frame-answer
 use Rattle.uslp_reader.proofs.Done.{frame-back}
 use Rattle.uslp_reader.proofs as reader
-use Rattle.uslp_demands.specs.Promise.{at, Allows, Settles, Shows}
+use Rattle.uslp_demands.specs.Promise.{Function, at, Allows, Settles, Shows}
 use Rattle.uslp_roundtrip.specs.Samples.{some, whole, spanning, made, octetsF, readF}
 use Rattle.uslp_demands.proofs.Alike.{alike}
 
-pub from-bytes-settles : Settles reader.TransferFrame.from_bytes.Kinds.ps reader.TransferFrame.from_bytes.Kinds.r reader.TransferFrame.from_bytes.Reads.Pre reader.TransferFrame.from_bytes.Reads.Learnt
+-- the functions, each with its promise
+abbrev fn-from-bytes : Function
+fn-from-bytes = record { lifetimes = _; params = reader.TransferFrame.from_bytes.Kinds.ps; result = reader.TransferFrame.from_bytes.Kinds.r; asks = reader.TransferFrame.from_bytes.Reads.Pre; learnt = reader.TransferFrame.from_bytes.Reads.Learnt }
+
+abbrev fn-len-frame : Function
+fn-len-frame = record { lifetimes = _; params = reader.TransferFrame.len_frame.Kinds.ps; result = reader.TransferFrame.len_frame.Kinds.r; asks = reader.TransferFrame.len_frame.Reads.Pre; learnt = reader.TransferFrame.len_frame.Reads.Learnt }
+
+abbrev fn-vc-id : Function
+fn-vc-id = record { lifetimes = _; params = reader.TransferFrame.vc_id.Kinds.ps; result = reader.TransferFrame.vc_id.Kinds.r; asks = reader.TransferFrame.vc_id.Reads.Pre; learnt = reader.TransferFrame.vc_id.Reads.Learnt }
+
+abbrev fn-map-id : Function
+fn-map-id = record { lifetimes = _; params = reader.TransferFrame.map_id.Kinds.ps; result = reader.TransferFrame.map_id.Kinds.r; asks = reader.TransferFrame.map_id.Reads.Pre; learnt = reader.TransferFrame.map_id.Reads.Learnt }
+
+abbrev fn-spacecraft-id : Function
+fn-spacecraft-id = record { lifetimes = _; params = reader.TransferFrame.spacecraft_id.Kinds.ps; result = reader.TransferFrame.spacecraft_id.Kinds.r; asks = reader.TransferFrame.spacecraft_id.Reads.Pre; learnt = reader.TransferFrame.spacecraft_id.Reads.Learnt }
+
+abbrev fn-source-or-dest-field : Function
+fn-source-or-dest-field = record { lifetimes = _; params = reader.TransferFrame.source_or_dest_field.Kinds.ps; result = reader.TransferFrame.source_or_dest_field.Kinds.r; asks = reader.TransferFrame.source_or_dest_field.Reads.Pre; learnt = reader.TransferFrame.source_or_dest_field.Reads.Learnt }
+
+abbrev fn-primary-header : Function
+fn-primary-header = record { lifetimes = _; params = reader.TransferFrame.primary_header.Kinds.ps; result = reader.TransferFrame.primary_header.Kinds.r; asks = reader.TransferFrame.primary_header.Reads.Pre; learnt = reader.TransferFrame.primary_header.Reads.Learnt }
+
+abbrev fn-data-field-header : Function
+fn-data-field-header = record { lifetimes = _; params = reader.TransferFrame.data_field_header.Kinds.ps; result = reader.TransferFrame.data_field_header.Kinds.r; asks = reader.TransferFrame.data_field_header.Reads.Pre; learnt = reader.TransferFrame.data_field_header.Reads.Learnt }
+
+abbrev fn-operational-control-field : Function
+fn-operational-control-field = record { lifetimes = _; params = reader.TransferFrame.operational_control_field.Kinds.ps; result = reader.TransferFrame.operational_control_field.Kinds.r; asks = reader.TransferFrame.operational_control_field.Reads.Pre; learnt = reader.TransferFrame.operational_control_field.Reads.Learnt }
+
+abbrev fn-raw-frame : Function
+fn-raw-frame = record { lifetimes = _; params = reader.TransferFrame.raw_frame.Kinds.ps; result = reader.TransferFrame.raw_frame.Kinds.r; asks = reader.TransferFrame.raw_frame.Reads.Pre; learnt = reader.TransferFrame.raw_frame.Reads.Learnt }
+
+abbrev fn-data : Function
+fn-data = record { lifetimes = _; params = reader.TransferFrame.data.Kinds.ps; result = reader.TransferFrame.data.Kinds.r; asks = reader.TransferFrame.data.Reads.Pre; learnt = reader.TransferFrame.data.Reads.Learnt }
+
+abbrev fn-data-of : Function
+fn-data-of = record { lifetimes = _; params = reader.data_of.Kinds.ps; result = reader.data_of.Kinds.r; asks = reader.data_of.Reads.Pre; learnt = reader.data_of.Reads.Learnt }
+
+pub from-bytes-settles : Settles fn-from-bytes
 from-bytes-settles = record { total = λ κs a. tt; same = λ κs a x y s t. alike (one-to-one paperFrame (back frame-answer.Done frame-answer.Refused) frame-back (s ∙ sym t)) refl }
 
 -- works the data length out before the test for FRAME_TOO_SHORT
-pub from-bytes-wrapped : Allows reader.TransferFrame.from_bytes.Kinds.ps reader.TransferFrame.from_bytes.Kinds.r reader.TransferFrame.from_bytes.Reads.Learnt ([], tt) (at (0xC1 ∷ 0x23 ∷ 0x48 ∷ 0xA6 ∷ 0x00 ∷ 0x07 ∷ 0x01 ∷ 0x07 ∷ 0xE4 ∷ 0x0A ∷ 0xF0 ∷ []), (false, tt)) (frame-answer.Done (record { «primary_header» = record { «spacecraft_id» = 0x1234; «source_or_dest_field» = Dest; «vc_id» = 5; «map_id» = 3; «frame_len_field» = 7; «sequence_control_flag» = some .«sequence_control_flag»; «protocol_control_command_flag» = some .«protocol_control_command_flag»; «ocf_flag» = false; «vc_frame_count_len» = 1; «vc_frame_count» = 7 }; «data_field_header» = whole; «operational_control_field» = Absent; «data_start» = 9; «data_len» = 0xFFFFFFFFFFFFFFFF }), (tt, (tt, tt))) → ⊥
+pub from-bytes-wrapped : Allows fn-from-bytes ([], tt) (at (0xC1 ∷ 0x23 ∷ 0x48 ∷ 0xA6 ∷ 0x00 ∷ 0x07 ∷ 0x01 ∷ 0x07 ∷ 0xE4 ∷ 0x0A ∷ 0xF0 ∷ []), (false, tt)) (frame-answer.Done (record { «primary_header» = record { «spacecraft_id» = 0x1234; «source_or_dest_field» = Dest; «vc_id» = 5; «map_id» = 3; «frame_len_field» = 7; «sequence_control_flag» = some .«sequence_control_flag»; «protocol_control_command_flag» = some .«protocol_control_command_flag»; «ocf_flag» = false; «vc_frame_count_len» = 1; «vc_frame_count» = 7 }; «data_field_header» = whole; «operational_control_field» = Absent; «data_start» = 9; «data_len» = 0xFFFFFFFFFFFFFFFF }), (tt, (tt, tt))) → ⊥
 unfolding frameReading headerReading fieldReading
 from-bytes-wrapped e = let z : _≡_ {A = ℕ} 0 1 = cc in omega arith
 
 -- gives TRUNCATED only after seven octets
-pub from-bytes-truncated : Allows reader.TransferFrame.from_bytes.Kinds.ps reader.TransferFrame.from_bytes.Kinds.r reader.TransferFrame.from_bytes.Reads.Learnt ([], tt) (at (0xC1 ∷ 0x23 ∷ 0x48 ∷ 0xA7 ∷ []), (false, tt)) (frame-answer.Refused (ShortSource 4 7), (tt, (tt, tt))) → ⊥
+pub from-bytes-truncated : Allows fn-from-bytes ([], tt) (at (0xC1 ∷ 0x23 ∷ 0x48 ∷ 0xA7 ∷ []), (false, tt)) (frame-answer.Refused (ShortSource 4 7), (tt, (tt, tt))) → ⊥
 unfolding frameReading headerReading
 from-bytes-truncated e = let z : _≡_ {A = ℕ} 0 1 = cc in omega arith
 
-pub len-frame-settles : Settles reader.TransferFrame.len_frame.Kinds.ps reader.TransferFrame.len_frame.Kinds.r reader.TransferFrame.len_frame.Reads.Pre reader.TransferFrame.len_frame.Reads.Learnt
+pub len-frame-settles : Settles fn-len-frame
 len-frame-settles = record { total = λ κs a. tt; same = λ κs a x y s t. alike (s ∙ sym t) refl }
 
 -- the field as it stands
-pub len-frame-field : Allows reader.TransferFrame.len_frame.Kinds.ps reader.TransferFrame.len_frame.Kinds.r reader.TransferFrame.len_frame.Reads.Learnt tt (readF, tt) (10, (tt, tt)) → ⊥
+pub len-frame-field : Allows fn-len-frame tt (readF, tt) (10, (tt, tt)) → ⊥
 len-frame-field e = omega arith
 
 -- the data alone
-pub len-frame-data : Allows reader.TransferFrame.len_frame.Kinds.ps reader.TransferFrame.len_frame.Kinds.r reader.TransferFrame.len_frame.Reads.Learnt tt (readF, tt) (2, (tt, tt)) → ⊥
+pub len-frame-data : Allows fn-len-frame tt (readF, tt) (2, (tt, tt)) → ⊥
 len-frame-data e = omega arith
 
-pub vc-id-settles : Settles reader.TransferFrame.vc_id.Kinds.ps reader.TransferFrame.vc_id.Kinds.r reader.TransferFrame.vc_id.Reads.Pre reader.TransferFrame.vc_id.Reads.Learnt
+pub vc-id-settles : Settles fn-vc-id
 vc-id-settles = record { total = λ κs a. tt; same = λ κs a x y s t. alike (s ∙ sym t) refl }
 
 -- the map id
-pub vc-id-map : Allows reader.TransferFrame.vc_id.Kinds.ps reader.TransferFrame.vc_id.Kinds.r reader.TransferFrame.vc_id.Reads.Learnt tt (readF, tt) (3, (tt, tt)) → ⊥
+pub vc-id-map : Allows fn-vc-id tt (readF, tt) (3, (tt, tt)) → ⊥
 vc-id-map e = omega arith
 
 -- 0 for all
-pub vc-id-zero : Allows reader.TransferFrame.vc_id.Kinds.ps reader.TransferFrame.vc_id.Kinds.r reader.TransferFrame.vc_id.Reads.Learnt tt (readF, tt) (0, (tt, tt)) → ⊥
+pub vc-id-zero : Allows fn-vc-id tt (readF, tt) (0, (tt, tt)) → ⊥
 vc-id-zero e = omega arith
 
-pub map-id-settles : Settles reader.TransferFrame.map_id.Kinds.ps reader.TransferFrame.map_id.Kinds.r reader.TransferFrame.map_id.Reads.Pre reader.TransferFrame.map_id.Reads.Learnt
+pub map-id-settles : Settles fn-map-id
 map-id-settles = record { total = λ κs a. tt; same = λ κs a x y s t. alike (s ∙ sym t) refl }
 
 -- the channel
-pub map-id-channel : Allows reader.TransferFrame.map_id.Kinds.ps reader.TransferFrame.map_id.Kinds.r reader.TransferFrame.map_id.Reads.Learnt tt (readF, tt) (5, (tt, tt)) → ⊥
+pub map-id-channel : Allows fn-map-id tt (readF, tt) (5, (tt, tt)) → ⊥
 map-id-channel e = omega arith
 
 -- 0 for all
-pub map-id-zero : Allows reader.TransferFrame.map_id.Kinds.ps reader.TransferFrame.map_id.Kinds.r reader.TransferFrame.map_id.Reads.Learnt tt (readF, tt) (0, (tt, tt)) → ⊥
+pub map-id-zero : Allows fn-map-id tt (readF, tt) (0, (tt, tt)) → ⊥
 map-id-zero e = omega arith
 
-pub spacecraft-id-settles : Settles reader.TransferFrame.spacecraft_id.Kinds.ps reader.TransferFrame.spacecraft_id.Kinds.r reader.TransferFrame.spacecraft_id.Reads.Pre reader.TransferFrame.spacecraft_id.Reads.Learnt
+pub spacecraft-id-settles : Settles fn-spacecraft-id
 spacecraft-id-settles = record { total = λ κs a. tt; same = λ κs a x y s t. alike (s ∙ sym t) refl }
 
 -- its low octet
-pub spacecraft-id-low : Allows reader.TransferFrame.spacecraft_id.Kinds.ps reader.TransferFrame.spacecraft_id.Kinds.r reader.TransferFrame.spacecraft_id.Reads.Learnt tt (readF, tt) (0x34, (tt, tt)) → ⊥
+pub spacecraft-id-low : Allows fn-spacecraft-id tt (readF, tt) (0x34, (tt, tt)) → ⊥
 spacecraft-id-low e = omega arith
 
 -- its octets swapped
-pub spacecraft-id-swapped : Allows reader.TransferFrame.spacecraft_id.Kinds.ps reader.TransferFrame.spacecraft_id.Kinds.r reader.TransferFrame.spacecraft_id.Reads.Learnt tt (readF, tt) (0x3412, (tt, tt)) → ⊥
+pub spacecraft-id-swapped : Allows fn-spacecraft-id tt (readF, tt) (0x3412, (tt, tt)) → ⊥
 spacecraft-id-swapped e = omega arith
 
-pub source-or-dest-field-settles : Settles reader.TransferFrame.source_or_dest_field.Kinds.ps reader.TransferFrame.source_or_dest_field.Kinds.r reader.TransferFrame.source_or_dest_field.Reads.Pre reader.TransferFrame.source_or_dest_field.Reads.Learnt
+pub source-or-dest-field-settles : Settles fn-source-or-dest-field
 source-or-dest-field-settles = record { total = λ κs a. tt; same = λ κs a x y s t. alike (s ∙ sym t) refl }
 
 -- the source for all
-pub source-or-dest-field-source : Allows reader.TransferFrame.source_or_dest_field.Kinds.ps reader.TransferFrame.source_or_dest_field.Kinds.r reader.TransferFrame.source_or_dest_field.Reads.Learnt tt (readF, tt) (Source, (tt, tt)) → ⊥
+pub source-or-dest-field-source : Allows fn-source-or-dest-field tt (readF, tt) (Source, (tt, tt)) → ⊥
 source-or-dest-field-source e = let z : _≡_ {A = ℕ} 0 1 = cc in omega arith
 
-pub primary-header-settles : Settles reader.TransferFrame.primary_header.Kinds.ps reader.TransferFrame.primary_header.Kinds.r reader.TransferFrame.primary_header.Reads.Pre reader.TransferFrame.primary_header.Reads.Learnt
+pub primary-header-settles : Settles fn-primary-header
 primary-header-settles = record { total = λ κs a. tt; same = λ κs a x y s t. alike (s ∙ sym t) refl }
 
 -- the header without its count
-pub primary-header-fresh : Allows reader.TransferFrame.primary_header.Kinds.ps reader.TransferFrame.primary_header.Kinds.r reader.TransferFrame.primary_header.Reads.Learnt tt (readF, tt) (made, (tt, tt)) → ⊥
+pub primary-header-fresh : Allows fn-primary-header tt (readF, tt) (made, (tt, tt)) → ⊥
 primary-header-fresh e = let z : _≡_ {A = ℕ} 0 7 = ap (λ (h : PrimaryHeader). h .«vc_frame_count») e in omega arith
 
-pub data-field-header-settles : Settles reader.TransferFrame.data_field_header.Kinds.ps reader.TransferFrame.data_field_header.Kinds.r reader.TransferFrame.data_field_header.Reads.Pre reader.TransferFrame.data_field_header.Reads.Learnt
+pub data-field-header-settles : Settles fn-data-field-header
 data-field-header-settles = record { total = λ κs a. tt; same = λ κs a x y s t. alike (s ∙ sym t) refl }
 
 -- another header
-pub data-field-header-other : Allows reader.TransferFrame.data_field_header.Kinds.ps reader.TransferFrame.data_field_header.Kinds.r reader.TransferFrame.data_field_header.Reads.Learnt tt (readF, tt) (spanning, (tt, tt)) → ⊥
+pub data-field-header-other : Allows fn-data-field-header tt (readF, tt) (spanning, (tt, tt)) → ⊥
 data-field-header-other e = let d : PacketSpanningMultipleFrames ≡ NoSegmentation = ap (λ (f : TransferFrameDataFieldHeader). f .«construction_rule») e in let z : _≡_ {A = ℕ} 0 1 = cc in omega arith
 
-pub operational-control-field-settles : Settles reader.TransferFrame.operational_control_field.Kinds.ps reader.TransferFrame.operational_control_field.Kinds.r reader.TransferFrame.operational_control_field.Reads.Pre reader.TransferFrame.operational_control_field.Reads.Learnt
+pub operational-control-field-settles : Settles fn-operational-control-field
 operational-control-field-settles = record { total = λ κs a. tt; same = λ κs a x y s t. alike (s ∙ sym t) refl }
 
 -- an OCF of 0 where there is none
-pub operational-control-field-zero : Allows reader.TransferFrame.operational_control_field.Kinds.ps reader.TransferFrame.operational_control_field.Kinds.r reader.TransferFrame.operational_control_field.Reads.Learnt tt (readF, tt) (Present 0, (tt, tt)) → ⊥
+pub operational-control-field-zero : Allows fn-operational-control-field tt (readF, tt) (Present 0, (tt, tt)) → ⊥
 operational-control-field-zero e = let z : _≡_ {A = ℕ} 0 1 = cc in omega arith
 
-pub raw-frame-settles : Settles reader.TransferFrame.raw_frame.Kinds.ps reader.TransferFrame.raw_frame.Kinds.r reader.TransferFrame.raw_frame.Reads.Pre reader.TransferFrame.raw_frame.Reads.Learnt
+pub raw-frame-settles : Settles fn-raw-frame
 raw-frame-settles = record { total = λ κs a. tt; same = λ κs a x y s t. alike (s ∙ sym t) refl }
 
-pub data-shows : Shows reader.TransferFrame.data.Kinds.ps reader.TransferFrame.data.Kinds.r reader.TransferFrame.data.Reads.Pre reader.TransferFrame.data.Reads.Learnt (λ κs a r. now r)
+pub data-shows : Shows fn-data (λ κs a r. now r)
 data-shows = record { total = λ κs a. tt; same = λ κs a x y s t. s ∙ sym t }
 
 -- shows the whole buffer; reads past what was lent
-pub data-whole : (r : RefT (List ℕ)) → now r ≡ octetsF → Allows reader.TransferFrame.data.Kinds.ps reader.TransferFrame.data.Kinds.r reader.TransferFrame.data.Reads.Learnt ([], tt) (readF, (at octetsF, tt)) (r, (tt, (tt, tt))) → ⊥
+pub data-whole : (r : RefT (List ℕ)) → now r ≡ octetsF → Allows fn-data ([], tt) (readF, (at octetsF, tt)) (r, (tt, (tt, tt))) → ⊥
 data-whole r h e = let z : _≡_ {A = ℕ} 0 1 = cc in omega arith
 
-pub data-past : (r : RefT (List ℕ)) → now r ≡ 0 ∷ 0 ∷ [] → Allows reader.TransferFrame.data.Kinds.ps reader.TransferFrame.data.Kinds.r reader.TransferFrame.data.Reads.Learnt ([], tt) (readF, (at [], tt)) (r, (tt, (tt, tt))) → ⊥
+pub data-past : (r : RefT (List ℕ)) → now r ≡ 0 ∷ 0 ∷ [] → Allows fn-data ([], tt) (readF, (at [], tt)) (r, (tt, (tt, tt))) → ⊥
 data-past r h e = let z : _≡_ {A = ℕ} 0 1 = cc in omega arith
 
-pub data-of-shows : Shows reader.data_of.Kinds.ps reader.data_of.Kinds.r reader.data_of.Reads.Pre reader.data_of.Reads.Learnt (λ κs a r. now r)
+pub data-of-shows : Shows fn-data-of (λ κs a r. now r)
 data-of-shows = record { total = λ κs a. tt; same = λ κs a x y s t. s ∙ sym t }
 
 -- shows octets on a refusal
-pub data-of-refused : (r : RefT (List ℕ)) → now r ≡ 1 ∷ [] → Allows reader.data_of.Kinds.ps reader.data_of.Kinds.r reader.data_of.Reads.Learnt ([], tt) (frame-answer.Refused Truncated, (at (1 ∷ []), tt)) (r, (tt, (tt, tt))) → ⊥
+pub data-of-refused : (r : RefT (List ℕ)) → now r ≡ 1 ∷ [] → Allows fn-data-of ([], tt) (frame-answer.Refused Truncated, (at (1 ∷ []), tt)) (r, (tt, (tt, tt))) → ⊥
 data-of-refused r h e = let z : _≡_ {A = ℕ} 0 1 = cc in omega arith

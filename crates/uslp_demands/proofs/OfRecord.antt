@@ -5,24 +5,54 @@ use Prim.Native.Nat.{ℕ, _^_}
 use native.Mathlib.Omega.{arith}
 use lib.ListN.{getD}
 use Rattle.uslp_kinds.proofs.Back.{back, one-to-one}
+use Rattle.uslp_kinds.proofs.Outcomes.{done-one}
 use Rattle.uslp_kinds.specs.declared.DoneAnswer.the-variants as done-answer
 use Rattle.uslp_kinds.specs.declared.Refusal.the-variants.{NotOpen, TotalFull}
 use Rattle.uslp_record.specs.Slots.{find, vacant, slotOf, put, emptyRecord}
 use Rattle.uslp_record.specs.Record.{Kept, keeping, paperTotal, paperState, opening, closing, showing, missingIn, tooMuchIn, consoleTotal}
-use Rattle.uslp_record.specs.Judging.{paperHeard, hearing}
+use Rattle.uslp_record.specs.Judging.{paperCount, judging}
 use Rattle.uslp_record.specs.declared.ChannelRecord.{ChannelRecord}
 use Rattle.uslp_record.specs.declared.SlotState.{SlotState}
 use Rattle.uslp_record.specs.declared.SlotState.the-variants.{Closed, Opened, Heard}
 use Rattle.uslp_record.specs.declared.TotalAnswer.the-variants as total-answer
 use Rattle.uslp_record.specs.declared.StateAnswer.the-variants as state-answer
 use Rattle.uslp_record.specs.declared.Arrival.the-variants.{New, Repeat, Late}
-use Rattle.uslp_record.specs.declared.HearAnswer.the-variants as hear-answer
-use Rattle.uslp_record.specs.declared.Verdict.the-variants as verdict
-use Rattle.uslp_record.proofs.Back.{total-back, state-back, heard-back, keeping-one, verdict-one}
+use Rattle.uslp_record.specs.declared.Arrival.{Arrival}
+use Rattle.uslp_record.specs.declared.Change.{Change}
+use Rattle.uslp_record.specs.declared.CountAnswer.the-variants as count-answer
+use Rattle.uslp_record.proofs.Back.{total-back, state-back, count-back, keeping-one}
 use Rattle.uslp_record.proofs as channels
-use Rattle.uslp_demands.specs.Promise.{Allows, Settles}
+use Rattle.uslp_demands.specs.Promise.{Function, Allows, Settles}
 use Rattle.uslp_demands.specs.Cases.{channel, lastHeard}
 use Rattle.uslp_demands.proofs.Alike.{alike, done-alike}
+
+-- the functions, each with its promise
+abbrev fn-new : Function
+fn-new = record { lifetimes = _; params = channels.ChannelRecord.new.Kinds.ps; result = channels.ChannelRecord.new.Kinds.r; asks = channels.ChannelRecord.new.Reads.Pre; learnt = channels.ChannelRecord.new.Reads.Learnt }
+
+abbrev fn-open-channel : Function
+fn-open-channel = record { lifetimes = _; params = channels.ChannelRecord.open_channel.Kinds.ps; result = channels.ChannelRecord.open_channel.Kinds.r; asks = channels.ChannelRecord.open_channel.Reads.Pre; learnt = channels.ChannelRecord.open_channel.Reads.Learnt }
+
+abbrev fn-close-channel : Function
+fn-close-channel = record { lifetimes = _; params = channels.ChannelRecord.close_channel.Kinds.ps; result = channels.ChannelRecord.close_channel.Kinds.r; asks = channels.ChannelRecord.close_channel.Reads.Pre; learnt = channels.ChannelRecord.close_channel.Reads.Learnt }
+
+abbrev fn-channel-state : Function
+fn-channel-state = record { lifetimes = _; params = channels.ChannelRecord.channel_state.Kinds.ps; result = channels.ChannelRecord.channel_state.Kinds.r; asks = channels.ChannelRecord.channel_state.Reads.Pre; learnt = channels.ChannelRecord.channel_state.Reads.Learnt }
+
+abbrev fn-total-missing : Function
+fn-total-missing = record { lifetimes = _; params = channels.ChannelRecord.total_missing.Kinds.ps; result = channels.ChannelRecord.total_missing.Kinds.r; asks = channels.ChannelRecord.total_missing.Reads.Pre; learnt = channels.ChannelRecord.total_missing.Reads.Learnt }
+
+abbrev fn-same-channel : Function
+fn-same-channel = record { lifetimes = _; params = channels.same_channel.Kinds.ps; result = channels.same_channel.Kinds.r; asks = channels.same_channel.Reads.Pre; learnt = channels.same_channel.Reads.Learnt }
+
+abbrev fn-search : Function
+fn-search = record { lifetimes = _; params = channels.search.Kinds.ps; result = channels.search.Kinds.r; asks = channels.search.Reads.Pre; learnt = channels.search.Reads.Learnt }
+
+abbrev fn-with-change : Function
+fn-with-change = record { lifetimes = _; params = channels.ChannelRecord.with_change.Kinds.ps; result = channels.ChannelRecord.with_change.Kinds.r; asks = channels.ChannelRecord.with_change.Reads.Pre; learnt = channels.ChannelRecord.with_change.Reads.Learnt }
+
+abbrev fn-judge-count : Function
+fn-judge-count = record { lifetimes = _; params = channels.ChannelRecord.judge_count.Kinds.ps; result = channels.ChannelRecord.judge_count.Kinds.r; asks = channels.ChannelRecord.judge_count.Reads.Pre; learnt = channels.ChannelRecord.judge_count.Reads.Learnt }
 
 -- a channel open in the first slot, and not heard yet
 abbrev opened : ChannelRecord
@@ -42,115 +72,128 @@ handedIn (Heard k w t) = t .«handed_on»
 abbrev full : ChannelRecord
 full = put emptyRecord 0 (Heard channel 1 (record { last = 0; «handed_on» = 1; missing = 2 ^ 60; repeats = 0; late = 0 }))
 
-pub new-settles : Settles channels.ChannelRecord.new.Kinds.ps channels.ChannelRecord.new.Kinds.r channels.ChannelRecord.new.Reads.Pre channels.ChannelRecord.new.Reads.Learnt
+pub new-settles : Settles fn-new
 new-settles = record { total = λ κs a. tt; same = λ κs a x y s t. alike (s ∙ sym t) refl }
 
 -- a slot open from the start
-pub new-opened : Allows channels.ChannelRecord.new.Kinds.ps channels.ChannelRecord.new.Kinds.r channels.ChannelRecord.new.Reads.Learnt tt tt (opened, tt) → ⊥
+pub new-opened : Allows fn-new tt tt (opened, tt) → ⊥
 new-opened e = let d : Closed ≡ Opened channel 1 = sym (ap (λ (r : ChannelRecord). getD (r .slots) 0 (slotOf Closed) .state) e) in let z : _≡_ {A = ℕ} 0 1 = cc in omega arith
 
-pub open-channel-settles : Settles channels.ChannelRecord.open_channel.Kinds.ps channels.ChannelRecord.open_channel.Kinds.r channels.ChannelRecord.open_channel.Reads.Pre channels.ChannelRecord.open_channel.Reads.Learnt
+pub open-channel-settles : Settles fn-open-channel
 open-channel-settles = record { total = λ κs a. tt; same = λ κs a x y s t. let e = keeping-one (s ∙ sym t) in alike (λ i. record { answer = done-alike {x = x .0 .answer} {y = y .0 .answer} (e .0) i; next = e .1 i }) refl }
 
 -- says done and opens nothing
-pub open-channel-idle : Allows channels.ChannelRecord.open_channel.Kinds.ps channels.ChannelRecord.open_channel.Kinds.r channels.ChannelRecord.open_channel.Reads.Learnt tt (emptyRecord, (channel, (1, tt))) (record { answer = done-answer.Done; next = emptyRecord }, (tt, (tt, (tt, tt)))) → ⊥
+pub open-channel-idle : Allows fn-open-channel tt (emptyRecord, (channel, (1, tt))) (record { answer = done-answer.Done; next = emptyRecord }, (tt, (tt, (tt, tt)))) → ⊥
 unfolding opening find vacant
 open-channel-idle e = let d : Closed ≡ Opened channel 1 = ap firstOf e in let z : _≡_ {A = ℕ} 0 1 = cc in omega arith
 
 -- takes width 0
-pub open-channel-width : Allows channels.ChannelRecord.open_channel.Kinds.ps channels.ChannelRecord.open_channel.Kinds.r channels.ChannelRecord.open_channel.Reads.Learnt tt (emptyRecord, (channel, (0, tt))) (record { answer = done-answer.Done; next = put emptyRecord 0 (Opened channel 0) }, (tt, (tt, (tt, tt)))) → ⊥
+pub open-channel-width : Allows fn-open-channel tt (emptyRecord, (channel, (0, tt))) (record { answer = done-answer.Done; next = put emptyRecord 0 (Opened channel 0) }, (tt, (tt, (tt, tt)))) → ⊥
 unfolding opening
 open-channel-width e = let d : Opened channel 0 ≡ Closed = ap firstOf e in let z : _≡_ {A = ℕ} 0 1 = cc in omega arith
 
-pub close-channel-settles : Settles channels.ChannelRecord.close_channel.Kinds.ps channels.ChannelRecord.close_channel.Kinds.r channels.ChannelRecord.close_channel.Reads.Pre channels.ChannelRecord.close_channel.Reads.Learnt
+pub close-channel-settles : Settles fn-close-channel
 close-channel-settles = record { total = λ κs a. tt; same = λ κs a x y s t. let e = keeping-one (s ∙ sym t) in alike (λ i. record { answer = done-alike {x = x .0 .answer} {y = y .0 .answer} (e .0) i; next = e .1 i }) refl }
 
 -- says done and closes nothing
-pub close-channel-idle : Allows channels.ChannelRecord.close_channel.Kinds.ps channels.ChannelRecord.close_channel.Kinds.r channels.ChannelRecord.close_channel.Reads.Learnt tt (opened, (channel, tt)) (record { answer = done-answer.Done; next = opened }, (tt, (tt, tt))) → ⊥
+pub close-channel-idle : Allows fn-close-channel tt (opened, (channel, tt)) (record { answer = done-answer.Done; next = opened }, (tt, (tt, tt))) → ⊥
 unfolding closing find
 close-channel-idle e = let d : Opened channel 1 ≡ Closed = ap firstOf e in let z : _≡_ {A = ℕ} 0 1 = cc in omega arith
 
 -- says done of a channel that is not open
-pub close-channel-lax : Allows channels.ChannelRecord.close_channel.Kinds.ps channels.ChannelRecord.close_channel.Kinds.r channels.ChannelRecord.close_channel.Reads.Learnt tt (emptyRecord, (channel, tt)) (record { answer = done-answer.Done; next = emptyRecord }, (tt, (tt, tt))) → ⊥
+pub close-channel-lax : Allows fn-close-channel tt (emptyRecord, (channel, tt)) (record { answer = done-answer.Done; next = emptyRecord }, (tt, (tt, tt))) → ⊥
 unfolding closing find
 close-channel-lax e = let d = keeping-one e .0 in let z : _≡_ {A = ℕ} 0 1 = cc in omega arith
 
-pub channel-state-settles : Settles channels.ChannelRecord.channel_state.Kinds.ps channels.ChannelRecord.channel_state.Kinds.r channels.ChannelRecord.channel_state.Reads.Pre channels.ChannelRecord.channel_state.Reads.Learnt
+pub channel-state-settles : Settles fn-channel-state
 channel-state-settles = record { total = λ κs a. tt; same = λ κs a x y s t. alike (one-to-one paperState (back state-answer.Done state-answer.Refused) state-back (s ∙ sym t)) refl }
 
 -- a closed slot for a channel that is not open
-pub channel-state-closed : Allows channels.ChannelRecord.channel_state.Kinds.ps channels.ChannelRecord.channel_state.Kinds.r channels.ChannelRecord.channel_state.Reads.Learnt tt (emptyRecord, (channel, tt)) (state-answer.Done Closed, (tt, (tt, tt))) → ⊥
+pub channel-state-closed : Allows fn-channel-state tt (emptyRecord, (channel, tt)) (state-answer.Done Closed, (tt, (tt, tt))) → ⊥
 unfolding showing find
 channel-state-closed e = let z : _≡_ {A = ℕ} 0 1 = cc in omega arith
 
 -- refuses an open channel
-pub channel-state-refuser : Allows channels.ChannelRecord.channel_state.Kinds.ps channels.ChannelRecord.channel_state.Kinds.r channels.ChannelRecord.channel_state.Reads.Learnt tt (opened, (channel, tt)) (state-answer.Refused NotOpen, (tt, (tt, tt))) → ⊥
+pub channel-state-refuser : Allows fn-channel-state tt (opened, (channel, tt)) (state-answer.Refused NotOpen, (tt, (tt, tt))) → ⊥
 unfolding showing find
 channel-state-refuser e = let z : _≡_ {A = ℕ} 0 1 = cc in omega arith
 
-pub total-missing-settles : Settles channels.ChannelRecord.total_missing.Kinds.ps channels.ChannelRecord.total_missing.Kinds.r channels.ChannelRecord.total_missing.Reads.Pre channels.ChannelRecord.total_missing.Reads.Learnt
+pub total-missing-settles : Settles fn-total-missing
 total-missing-settles = record { total = λ κs a. tt; same = λ κs a x y s t. alike (one-to-one paperTotal (back total-answer.Done total-answer.Refused) total-back (s ∙ sym t)) refl }
 
 -- adds up what no call made
-pub total-missing-lax : Allows channels.ChannelRecord.total_missing.Kinds.ps channels.ChannelRecord.total_missing.Kinds.r channels.ChannelRecord.total_missing.Reads.Learnt tt (full, tt) (total-answer.Done (2 ^ 60), (tt, tt)) → ⊥
+pub total-missing-lax : Allows fn-total-missing tt (full, tt) (total-answer.Done (2 ^ 60), (tt, tt)) → ⊥
 unfolding consoleTotal tooMuchIn missingIn
 total-missing-lax e = let z : _≡_ {A = ℕ} 0 1 = cc in omega arith
 
 -- refuses an empty record
-pub total-missing-full : Allows channels.ChannelRecord.total_missing.Kinds.ps channels.ChannelRecord.total_missing.Kinds.r channels.ChannelRecord.total_missing.Reads.Learnt tt (emptyRecord, tt) (total-answer.Refused TotalFull, (tt, tt)) → ⊥
+pub total-missing-full : Allows fn-total-missing tt (emptyRecord, tt) (total-answer.Refused TotalFull, (tt, tt)) → ⊥
 unfolding consoleTotal tooMuchIn missingIn
 total-missing-full e = let z : _≡_ {A = ℕ} 0 1 = cc in omega arith
 
-pub same-channel-settles : Settles channels.same_channel.Kinds.ps channels.same_channel.Kinds.r channels.same_channel.Reads.Pre channels.same_channel.Reads.Learnt
+pub same-channel-settles : Settles fn-same-channel
 same-channel-settles = record { total = λ κs a. tt; same = λ κs a x y s t. alike (s ∙ sym t) refl }
 
 -- compares the channel number alone
-pub same-channel-number : Allows channels.same_channel.Kinds.ps channels.same_channel.Kinds.r channels.same_channel.Reads.Learnt tt (channel, (record { «spacecraft_id» = 0; «vc_id» = 5 }, tt)) (true, (tt, (tt, tt))) → ⊥
+pub same-channel-number : Allows fn-same-channel tt (channel, (record { «spacecraft_id» = 0; «vc_id» = 5 }, tt)) (true, (tt, (tt, tt))) → ⊥
 same-channel-number e = let z : _≡_ {A = ℕ} 0 1 = cc in omega arith
 
 -- compares the spacecraft alone
-pub same-channel-craft : Allows channels.same_channel.Kinds.ps channels.same_channel.Kinds.r channels.same_channel.Reads.Learnt tt (channel, (record { «spacecraft_id» = 0x1234; «vc_id» = 6 }, tt)) (true, (tt, (tt, tt))) → ⊥
+pub same-channel-craft : Allows fn-same-channel tt (channel, (record { «spacecraft_id» = 0x1234; «vc_id» = 6 }, tt)) (true, (tt, (tt, tt))) → ⊥
 same-channel-craft e = let z : _≡_ {A = ℕ} 0 1 = cc in omega arith
 
-pub search-settles : Settles channels.search.Kinds.ps channels.search.Kinds.r channels.search.Reads.Pre channels.search.Reads.Learnt
+pub search-settles : Settles fn-search
 search-settles = record { total = λ κs a. tt; same = λ κs a x y s t. alike (s ∙ sym t) refl }
 
 -- the last slot that holds the channel
-pub search-last : Allows channels.search.Kinds.ps channels.search.Kinds.r channels.search.Reads.Learnt tt (put opened 3 (Opened channel 2), (channel, tt)) (3, (tt, (tt, tt))) → ⊥
+pub search-last : Allows fn-search tt (put opened 3 (Opened channel 2), (channel, tt)) (3, (tt, (tt, tt))) → ⊥
 unfolding find
 search-last e = omega arith
 
 -- the first slot where none holds it
-pub search-zero : Allows channels.search.Kinds.ps channels.search.Kinds.r channels.search.Reads.Learnt tt (emptyRecord, (channel, tt)) (0, (tt, (tt, tt))) → ⊥
+pub search-zero : Allows fn-search tt (emptyRecord, (channel, tt)) (0, (tt, (tt, tt))) → ⊥
 unfolding find
 search-zero e = omega arith
 
-pub replaced-settles : Settles channels.replaced.Kinds.ps channels.replaced.Kinds.r channels.replaced.Reads.Pre channels.replaced.Reads.Learnt
-replaced-settles = record { total = λ κs a. tt; same = λ κs a x y s t. alike (s ∙ sym t) refl }
+pub with-change-settles : Settles fn-with-change
+with-change-settles = record { total = λ κs a. tt; same = λ κs a x y s t. alike (s ∙ sym t) refl }
 
--- replaces nothing
-pub replaced-idle : Allows channels.replaced.Kinds.ps channels.replaced.Kinds.r channels.replaced.Reads.Learnt tt (emptyRecord, (0, (Opened channel 1, tt))) (emptyRecord, (tt, (tt, (tt, tt)))) → ⊥
-replaced-idle e = let d : Closed ≡ Opened channel 1 = ap (λ (r : ChannelRecord). getD (r .slots) 0 (slotOf Closed) .state) e in let z : _≡_ {A = ℕ} 0 1 = cc in omega arith
+-- changes nothing; changes another slot
+abbrev change : Change
+change = record { at = 0; state = Opened channel 1 }
 
-pub hear-count-settles : Settles channels.ChannelRecord.hear_count.Kinds.ps channels.ChannelRecord.hear_count.Kinds.r channels.ChannelRecord.hear_count.Reads.Pre channels.ChannelRecord.hear_count.Reads.Learnt
-hear-count-settles = record { total = λ κs a. tt; same = λ κs a x y s t. let e = keeping-one (s ∙ sym t) in alike (λ i. record { answer = one-to-one paperHeard (back hear-answer.Done hear-answer.Refused) heard-back {x = x .0 .answer} {y = y .0 .answer} (e .0) i; next = e .1 i }) refl }
+pub with-change-idle : Allows fn-with-change tt (emptyRecord, (change, tt)) (emptyRecord, (tt, (tt, tt))) → ⊥
+with-change-idle e =
+    let d : Closed ≡ Opened channel 1 = ap (λ (r : ChannelRecord). getD (r .slots) 0 (slotOf Closed) .state) e in
+    let z : _≡_ {A = ℕ} 0 1 = cc in omega arith
 
-pub judge-count-settles : Settles channels.ChannelRecord.judge_count.Kinds.ps channels.ChannelRecord.judge_count.Kinds.r channels.ChannelRecord.judge_count.Reads.Pre channels.ChannelRecord.judge_count.Reads.Learnt
-judge-count-settles = record { total = λ κs a. tt; same = λ κs a x y s t. alike (verdict-one (a .0) (a .1 .0) (a .1 .1 .0) (a .1 .1 .1 .0) (x .0) (y .0) (s .0 ∙ sym (t .0)) (s .1) (t .1)) refl }
+pub with-change-elsewhere : Allows fn-with-change tt (emptyRecord, (change, tt)) (put emptyRecord 1 (Opened channel 1), (tt, (tt, tt))) → ⊥
+with-change-elsewhere e =
+    let d : Closed ≡ Opened channel 1 = ap (λ (r : ChannelRecord). getD (r .slots) 0 (slotOf Closed) .state) e in
+    let z : _≡_ {A = ℕ} 0 1 = cc in omega arith
+
+pub judge-count-settles : Settles fn-judge-count
+judge-count-settles = record {
+  total = λ κs a. tt;
+  same = λ κs a x y s t.
+      alike
+      (one-to-one paperCount (back (λ (z : Arrival × Change). count-answer.Done (z .0) (z .1)) count-answer.Refused) count-back
+      {x = x .0} {y = y .0} (s ∙ sym t))
+      refl;
+}
 
 -- changes a slot that does not hold the channel
-pub judge-count-elsewhere : (t : SlotState) → Allows channels.ChannelRecord.judge_count.Kinds.ps channels.ChannelRecord.judge_count.Kinds.r channels.ChannelRecord.judge_count.Reads.Learnt tt (opened, (channel, (1, (7, tt)))) (verdict.Done (New 0) 3 t, (tt, (tt, (tt, (tt, tt))))) → ⊥
-unfolding find
-judge-count-elsewhere t e = let z : _≡_ {A = ℕ} 3 0 = e .1 .0 in omega arith
+pub judge-count-elsewhere : (s : SlotState)
+    → Allows fn-judge-count tt (opened, (channel, (1, (7, tt)))) (count-answer.Done (New 0) (record { at = 3; state = s }), (tt, (tt, (tt, (tt, tt))))) → ⊥
+unfolding judging find
+judge-count-elsewhere s e = let z : _≡_ {A = ℕ} 3 0 = ap (λ (x : Arrival × Change). x .1 .at) (done-one e) in omega arith
 
 -- half of M ahead taken as LATE; a REPEAT counted as handed on
-pub hear-count-half : (next : ChannelRecord) → Allows channels.ChannelRecord.hear_count.Kinds.ps channels.ChannelRecord.hear_count.Kinds.r channels.ChannelRecord.hear_count.Reads.Learnt tt (lastHeard 1 0, (channel, (1, (128, tt)))) (record { answer = hear-answer.Done Late; next = next }, (tt, (tt, (tt, (tt, tt))))) → ⊥
-unfolding hearing find
-hear-count-half next e = let d = keeping-one e .0 in let z : _≡_ {A = ℕ} 0 1 = cc in omega arith
+pub judge-count-half : (c : Change) → Allows fn-judge-count tt (lastHeard 1 0, (channel, (1, (128, tt)))) (count-answer.Done Late c, (tt, (tt, (tt, (tt, tt))))) → ⊥
+unfolding judging find
+judge-count-half c e = let d : Late ≡ New 127 = ap (λ (x : Arrival × Change). x .0) (done-one e) in let z : _≡_ {A = ℕ} 0 1 = cc in omega arith
 
-pub hear-count-repeat : (next : ChannelRecord) → getD (next .slots) 0 (slotOf Closed) .state ≡ Heard channel 1 (record { last = 0; «handed_on» = 2; missing = 0; repeats = 0; late = 0 })
-    → Allows channels.ChannelRecord.hear_count.Kinds.ps channels.ChannelRecord.hear_count.Kinds.r channels.ChannelRecord.hear_count.Reads.Learnt tt (lastHeard 1 0, (channel, (1, (0, tt)))) (record { answer = hear-answer.Done Repeat; next = next }, (tt, (tt, (tt, (tt, tt))))) → ⊥
-unfolding hearing find
-hear-count-repeat next h e =
-    let d : Heard channel 1 (record { last = 0; «handed_on» = 2; missing = 0; repeats = 0; late = 0 }) ≡ Heard channel 1 (record { last = 0; «handed_on» = 1; missing = 0; repeats = 1; late = 0 }) = sym h ∙ ap firstOf e in
-    let z : _≡_ {A = ℕ} 2 1 = ap handedIn d in omega arith
+pub judge-count-repeat : (c : Change) → handedIn (c .state) ≡ 2
+    → Allows fn-judge-count tt (lastHeard 1 0, (channel, (1, (0, tt)))) (count-answer.Done Repeat c, (tt, (tt, (tt, (tt, tt))))) → ⊥
+unfolding judging find
+judge-count-repeat c h e = let z : _≡_ {A = ℕ} 2 1 = sym h ∙ ap (λ (x : Arrival × Change). handedIn (x .1 .state)) (done-one e) in omega arith

@@ -6,39 +6,52 @@ use native.Mathlib.Omega.{arith}
 use lib.ListN.{getD}
 use Rattle.uslp_text.specs.Text.{widthIn}
 use Rattle.uslp_text.proofs as text
-use Rattle.uslp_demands.specs.Promise.{at, Allows, Settles}
+use Rattle.uslp_demands.specs.Promise.{Function, at, Allows, Settles}
 use Rattle.uslp_demands.proofs.Alike.{alike}
 
-pub decimal-len-settles : Settles text.decimal_len.Kinds.ps text.decimal_len.Kinds.r text.decimal_len.Reads.Pre text.decimal_len.Reads.Learnt
+-- the functions, each with its promise
+abbrev fn-decimal-len : Function
+fn-decimal-len = record { lifetimes = _; params = text.decimal_len.Kinds.ps; result = text.decimal_len.Kinds.r; asks = text.decimal_len.Reads.Pre; learnt = text.decimal_len.Reads.Learnt }
+
+abbrev fn-put-decimal : Function
+fn-put-decimal = record { lifetimes = _; params = text.put_decimal.Kinds.ps; result = text.put_decimal.Kinds.r; asks = text.put_decimal.Reads.Pre; learnt = text.put_decimal.Reads.Learnt }
+
+abbrev fn-put-text : Function
+fn-put-text = record { lifetimes = _; params = text.put_text.Kinds.ps; result = text.put_text.Kinds.r; asks = text.put_text.Reads.Pre; learnt = text.put_text.Reads.Learnt }
+
+abbrev fn-put-number : Function
+fn-put-number = record { lifetimes = _; params = text.put_number.Kinds.ps; result = text.put_number.Kinds.r; asks = text.put_number.Reads.Pre; learnt = text.put_number.Reads.Learnt }
+
+pub decimal-len-settles : Settles fn-decimal-len
 decimal-len-settles = record { total = λ κs a. tt; same = λ κs a x y s t. alike (s ∙ sym t) refl }
 
 -- none for 0
-pub decimal-len-zero : Allows text.decimal_len.Kinds.ps text.decimal_len.Kinds.r text.decimal_len.Reads.Learnt tt (0, tt) (0, (tt, tt)) → ⊥
+pub decimal-len-zero : Allows fn-decimal-len tt (0, tt) (0, (tt, tt)) → ⊥
 unfolding widthIn
 decimal-len-zero e = omega arith
 
 -- one for 10
-pub decimal-len-ten : Allows text.decimal_len.Kinds.ps text.decimal_len.Kinds.r text.decimal_len.Reads.Learnt tt (10, tt) (1, (tt, tt)) → ⊥
+pub decimal-len-ten : Allows fn-decimal-len tt (10, tt) (1, (tt, tt)) → ⊥
 unfolding widthIn
 decimal-len-ten e = omega arith
 
-pub put-decimal-settles : Settles text.put_decimal.Kinds.ps text.put_decimal.Kinds.r text.put_decimal.Reads.Pre text.put_decimal.Reads.Learnt
+pub put-decimal-settles : Settles fn-put-decimal
 put-decimal-settles = record { total = λ κs a. tt; same = λ κs a x y s t. alike refl (λ i. (tt, ((s ∙ sym t) i, tt))) }
 
 -- writes nothing
-pub put-decimal-idle : Allows text.put_decimal.Kinds.ps text.put_decimal.Kinds.r text.put_decimal.Reads.Learnt ([], tt) (42, (at (0 ∷ 0 ∷ []), tt)) (tt, (tt, (0 ∷ 0 ∷ [], tt))) → ⊥
+pub put-decimal-idle : Allows fn-put-decimal ([], tt) (42, (at (0 ∷ 0 ∷ []), tt)) (tt, (tt, (0 ∷ 0 ∷ [], tt))) → ⊥
 put-decimal-idle e = let z : _≡_ {A = ℕ} 0 52 = cc in omega arith
 
 -- the least significant digit first
-pub put-decimal-swapped : Allows text.put_decimal.Kinds.ps text.put_decimal.Kinds.r text.put_decimal.Reads.Learnt ([], tt) (42, (at (0 ∷ 0 ∷ []), tt)) (tt, (tt, (50 ∷ 52 ∷ [], tt))) → ⊥
+pub put-decimal-swapped : Allows fn-put-decimal ([], tt) (42, (at (0 ∷ 0 ∷ []), tt)) (tt, (tt, (50 ∷ 52 ∷ [], tt))) → ⊥
 put-decimal-swapped e = let z : _≡_ {A = ℕ} 50 52 = cc in omega arith
 
-pub put-text-settles : Settles text.put_text.Kinds.ps text.put_text.Kinds.r text.put_text.Reads.Pre text.put_text.Reads.Learnt
+pub put-text-settles : Settles fn-put-text
 put-text-settles = record { total = λ κs a. tt; same = λ κs a x y s t. alike (s .ends ∙ sym (t .ends)) (λ i. (tt, ((s .stands ∙ sym (t .stands)) i, (tt, tt)))) }
 
 -- leaves out what has no room, and tells a place behind it
-pub put-text-out : Allows text.put_text.Kinds.ps text.put_text.Kinds.r text.put_text.Reads.Learnt ([], ([], tt)) (at (1 ∷ 2 ∷ []), (at (7 ∷ []), (0, tt))) (1, (tt, (7 ∷ [], (tt, tt)))) → ⊥
+pub put-text-out : Allows fn-put-text ([], ([], tt)) (at (1 ∷ 2 ∷ []), (at (7 ∷ []), (0, tt))) (1, (tt, (7 ∷ [], (tt, tt)))) → ⊥
 put-text-out e = let z : _≡_ {A = ℕ} 7 1 = ap (λ (s : List ℕ). getD s 0 0) (e .stands) in omega arith
 
-pub put-number-settles : Settles text.put_number.Kinds.ps text.put_number.Kinds.r text.put_number.Reads.Pre text.put_number.Reads.Learnt
+pub put-number-settles : Settles fn-put-number
 put-number-settles = record { total = λ κs a. tt; same = λ κs a x y s t. alike (s .ends ∙ sym (t .ends)) (λ i. (tt, ((s .stands ∙ sym (t .stands)) i, (tt, tt)))) }

@@ -15,8 +15,8 @@ use Rattle.uslp_writer.specs.declared.TransferFrameCreator.{TransferFrameCreato
 use Rattle.uslp_reader.specs.Reader.{frameReading, contentsIn}
 use Rattle.uslp_reader.specs.declared.TransferFrame.{TransferFrame}
 use Rattle.uslp_record.specs.Slots.{put, emptyRecord}
-use Rattle.uslp_record.specs.Record.{Kept, keeping}
-use Rattle.uslp_record.specs.Judging.{firstTotals, hearing}
+use Rattle.uslp_record.specs.declared.Change.{Change}
+use Rattle.uslp_record.specs.Judging.{firstTotals, judging}
 use Rattle.uslp_record.specs.declared.Channel.{Channel}
 use Rattle.uslp_record.specs.declared.ChannelRecord.{ChannelRecord}
 use Rattle.uslp_record.specs.declared.SlotState.the-variants.{Heard}
@@ -45,14 +45,12 @@ channel = record { «spacecraft_id» = 0x1234; «vc_id» = 5 }
 abbrev pub lastHeard : ℕ → ℕ → ChannelRecord
 lastHeard width last = put emptyRecord 0 (Heard channel width (firstTotals last))
 
-abbrev pub answerOf : {A : Type 0} → Kept A → Outcome A
-answerOf (keeping o r) = o
-
 abbrev pub answerTo : Question → Answer
 answerTo (reads s fecf) = frame (andThen (frameReading s fecf) (λ (x : TransferFrame). done (x, contentsIn x s)))
 answerTo (writes c contents s) = octets (frameWriting c contents s)
 answerTo (sets h width count) = header (countSetting h width count)
-answerTo (hears width last count) = arrival (answerOf (hearing (lastHeard width last) channel width count))
+answerTo (hears width last count) =
+    arrival (andThen (judging (lastHeard width last) channel width count) (λ (x : Arrival × Change). done (x .0)))
 
 -- frame F with other length octets, another octet 6 or another octet 8, and its frames
 abbrev pub longF : ℕ → List ℕ

@@ -18,30 +18,38 @@ at s = record { ptr = (0, 0); name = 0; now = s }
 abbrev pub LeftBy : (T : Ended) (κs : Lfts (T .signature .lifetimes)) → Args (T .signature) κs → Type 0
 LeftBy T κs a = Res (T .signature) κs × Lasts T κs a
 
-module _ {n : ℕ} (ps : List (PK n)) (r : RK n) where
-  abbrev pub Left : (κs : Lfts n) → Dens κs ps → Type 0
-  Left = LeftBy (endedOf n ps r)
+-- a function as its promise is read: the kinds of its parameters and of its result, its `requires`, and its `ensures`
+pub record Function : Type 3 where
+  pub lifetimes : ℕ
+  pub params : List (PK lifetimes)
+  pub result : RK lifetimes
+  pub asks : In lifetimes params
+  pub learnt : Out lifetimes params result
+
+module _ (F : Function) where
+  abbrev pub Left : (κs : Lfts (F .lifetimes)) → Dens κs (F .params) → Type 0
+  Left = LeftBy (endedOf (F .lifetimes) (F .params) (F .result))
 
   -- the promise allows this outcome of a call with the arguments a
-  abbrev pub Allows : Out n ps r → (κs : Lfts n) (a : Dens κs ps) → Left κs a → Type 0
-  Allows post κs a x = post κs a (x .0) (atExit (endedOf n ps r) κs a (x .1))
+  abbrev pub Allows : (κs : Lfts (F .lifetimes)) (a : Dens κs (F .params)) → Left κs a → Type 0
+  Allows κs a x = F .learnt κs a (x .0) (atExit (endedOf (F .lifetimes) (F .params) (F .result)) κs a (x .1))
 
   -- every argument may be passed, and R holds of any two outcomes that the promise allows
-  pub record AnyTwo (pre : In n ps) (post : Out n ps r) (R : (κs : Lfts n) (a : Dens κs ps) → Left κs a → Left κs a → Type 0) : Type 0 where
-    pub total : (κs : Lfts n) (a : Dens κs ps) → pre κs a
-    pub same : (κs : Lfts n) (a : Dens κs ps) (x y : Left κs a) → Allows post κs a x → Allows post κs a y → R κs a x y
+  pub record AnyTwo (R : (κs : Lfts (F .lifetimes)) (a : Dens κs (F .params)) → Left κs a → Left κs a → Type 0) : Type 0 where
+    pub total : (κs : Lfts (F .lifetimes)) (a : Dens κs (F .params)) → F .asks κs a
+    pub same : (κs : Lfts (F .lifetimes)) (a : Dens κs (F .params)) (x y : Left κs a) → Allows κs a x → Allows κs a y → R κs a x y
 
   -- they are equal
-  abbrev pub Settles : In n ps → Out n ps r → Type 0
-  Settles pre post = AnyTwo pre post (λ κs a x y. x ≡ y)
+  abbrev pub Settles : Type 0
+  Settles = AnyTwo (λ κs a x y. x ≡ y)
 
   -- of a function that hands back a part of what it was lent: what the part shows is equal, where it lies is not spoken of
-  abbrev pub Shows : In n ps → Out n ps r → ((κs : Lfts n) (a : Dens κs ps) → resT r κs .Denot → List ℕ) → Type 0
-  Shows pre post shown = AnyTwo pre post (λ κs a x y. shown κs a (x .0) ≡ shown κs a (y .0))
+  abbrev pub Shows : ((κs : Lfts (F .lifetimes)) (a : Dens κs (F .params)) → resT (F .result) κs .Denot → List ℕ) → Type 0
+  Shows shown = AnyTwo (λ κs a x y. shown κs a (x .0) ≡ shown κs a (y .0))
 
   -- a program, as far as a promise sees it: what it leaves on each argument
   abbrev pub Program : Type 0
-  Program = (κs : Lfts n) (a : Dens κs ps) → Left κs a
+  Program = (κs : Lfts (F .lifetimes)) (a : Dens κs (F .params)) → Left κs a
 
-  abbrev pub Keeps : Out n ps r → Program → Type 0
-  Keeps post f = (κs : Lfts n) (a : Dens κs ps) → Allows post κs a (f κs a)
+  abbrev pub Keeps : Program → Type 0
+  Keeps f = (κs : Lfts (F .lifetimes)) (a : Dens κs (F .params)) → Allows κs a (f κs a)

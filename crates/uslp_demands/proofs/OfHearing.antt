@@ -1,0 +1,78 @@
+-- The promises of `uslp_hearing` settle each call. `handed_on` hands back a part of the lent octets: what it shows is settled.
+use mathlib.Core.Path.{_≡_, refl, sym, ap, _∙_}
+use mathlib.Core.Bool.{false}
+use mathlib.Core.List.{List, [], _∷_}
+use Prim.Native.Nat.{ℕ}
+use native.Mathlib.Omega.{arith}
+use denote.Ref.{RefT, now}
+use Rattle.uslp_kinds.proofs.Back.{back, one-to-one}
+use Rattle.uslp_record.specs.declared.Channel.{Channel}
+use Rattle.uslp_record.specs.declared.Change.{Change}
+use Rattle.uslp_record.proofs.Back.{keeping-one}
+use Rattle.uslp_hearing.specs.Hearing.{paperHear, paperJudge}
+use Rattle.uslp_hearing.specs.declared.FrameArrival.the-variants.{New, Repeat, Late}
+use Rattle.uslp_hearing.specs.declared.FrameArrival.{FrameArrival}
+use Rattle.uslp_hearing.specs.declared.HearAnswer.the-variants.{Done, Refused}
+use Rattle.uslp_hearing.specs.declared.JudgeAnswer.the-variants as judge-answer
+use Rattle.uslp_hearing.proofs.Heard.{hear-back, judge-back}
+use Rattle.uslp_hearing.proofs as hearing
+use Rattle.uslp_demands.specs.Promise.{Function, at, Allows, Settles, Shows}
+use Rattle.uslp_roundtrip.specs.Samples.{octetsF, some, readF}
+use Rattle.uslp_demands.proofs.Alike.{alike}
+
+-- the functions, each with its promise
+abbrev fn-hear : Function
+fn-hear = record { lifetimes = _; params = hearing.hear.Kinds.ps; result = hearing.hear.Kinds.r; asks = hearing.hear.Reads.Pre; learnt = hearing.hear.Reads.Learnt }
+
+abbrev fn-judge : Function
+fn-judge = record { lifetimes = _; params = hearing.judge.Kinds.ps; result = hearing.judge.Kinds.r; asks = hearing.judge.Reads.Pre; learnt = hearing.judge.Reads.Learnt }
+
+abbrev fn-handed-on : Function
+fn-handed-on = record { lifetimes = _; params = hearing.handed_on.Kinds.ps; result = hearing.handed_on.Kinds.r; asks = hearing.handed_on.Reads.Pre; learnt = hearing.handed_on.Reads.Learnt }
+
+abbrev fn-channel-of : Function
+fn-channel-of = record { lifetimes = _; params = hearing.channel_of.Kinds.ps; result = hearing.channel_of.Kinds.r; asks = hearing.channel_of.Reads.Pre; learnt = hearing.channel_of.Reads.Learnt }
+
+pub hear-settles : Settles fn-hear
+hear-settles = record {
+  total = λ κs a. tt;
+  same = λ κs a x y s t.
+      let e = keeping-one (s ∙ sym t) in
+      alike
+      (λ i. record {
+        answer = one-to-one paperHear (back Done Refused) hear-back {x = x .0 .answer} {y = y .0 .answer} (e .0) i;
+        next = e .1 i;
+      })
+      refl;
+}
+
+pub judge-settles : Settles fn-judge
+judge-settles = record {
+  total = λ κs a. tt;
+  same = λ κs a x y s t.
+      alike
+      (one-to-one paperJudge (back (λ (z : FrameArrival × Change). judge-answer.Done (z .0) (z .1)) judge-answer.Refused) judge-back
+      {x = x .0} {y = y .0} (s ∙ sym t))
+      refl;
+}
+
+pub handed-on-shows : Shows fn-handed-on (λ κs a r. now r)
+handed-on-shows = record { total = λ κs a. tt; same = λ κs a x y s t. s ∙ sym t }
+
+-- hands on the data of a REPEAT; hands on nothing of a NEW frame
+pub handed-on-repeat : (r : RefT (List ℕ)) → now r ≡ 0x0A ∷ 0xF0 ∷ [] → Allows fn-handed-on ([], tt) (Done Repeat, (at octetsF, tt)) (r, (tt, (tt, tt))) → ⊥
+handed-on-repeat r h e = let z : _≡_ {A = ℕ} 0 1 = cc in omega arith
+
+pub handed-on-none : (r : RefT (List ℕ)) → now r ≡ [] → Allows fn-handed-on ([], tt) (Done (New 0 readF), (at octetsF, tt)) (r, (tt, (tt, tt))) → ⊥
+handed-on-none r h e = let z : _≡_ {A = ℕ} 0 1 = cc in omega arith
+
+pub channel-of-settles : Settles fn-channel-of
+channel-of-settles = record { total = λ κs a. tt; same = λ κs a x y s t. alike (s ∙ sym t) refl }
+
+-- the map id for the channel number
+pub channel-of-map : Allows fn-channel-of tt (some, tt) (record { «spacecraft_id» = 0x1234; «vc_id» = 3 }, (tt, tt)) → ⊥
+channel-of-map e = let z : _≡_ {A = ℕ} 3 5 = ap (λ (k : Channel). k .«vc_id») e in omega arith
+
+-- the channel number alone
+pub channel-of-number : Allows fn-channel-of tt (some, tt) (record { «spacecraft_id» = 0; «vc_id» = 5 }, (tt, tt)) → ⊥
+channel-of-number e = let z : _≡_ {A = ℕ} 0 0x1234 = ap (λ (k : Channel). k .«spacecraft_id») e in omega arith

@@ -1,0 +1,134 @@
+-- The promises of `uslp_writer` settle each call, and shut out two tempting wrong answers of each function. `data` and `data_mut` hand
+-- back a part of the lent octets: what it shows is settled.
+use mathlib.Core.Path.{_≡_, refl, sym, ap, _∙_}
+use mathlib.Core.Bool.{true, false}
+use mathlib.Core.List.{List, [], _∷_}
+use Prim.Native.Nat.{ℕ}
+use native.Mathlib.Omega.{arith}
+use denote.Ref.{RefT, now}
+use Rattle.uslp_kinds.specs.Answers.{paperLength}
+use Rattle.uslp_kinds.proofs.Back.{back, one-to-one, length-back, leaving-one}
+use Rattle.uslp_kinds.proofs.Outcomes.{done-one}
+use Rattle.uslp_kinds.specs.declared.Refusal.the-variants.{ShortTarget}
+use Rattle.uslp_kinds.specs.declared.LengthAnswer.the-variants as length-answer
+use Rattle.uslp_primary_header.specs.Header.{headerChecking}
+use Rattle.uslp_checksum.specs.Checksum.{bit, step, feed, lows, bits, checksumOf}
+use Rattle.uslp_writer.specs.Frame.{frameLength, frameWriting}
+use Rattle.uslp_writer.specs.Reserved.{paperReserved, reserving, finishLength}
+use Rattle.uslp_writer.specs.declared.TransferFrameCreatorWithReservedData.{TransferFrameCreatorWithReservedData}
+use Rattle.uslp_writer.specs.declared.ReservedAnswer.the-variants as reserved-answer
+use Rattle.uslp_writer.proofs.Paths.{reserved-back}
+use Rattle.uslp_writer.proofs as frame
+use Rattle.uslp_demands.specs.Promise.{Function, at, Allows, Settles, Shows}
+use Rattle.uslp_roundtrip.specs.Samples.{frameF, plain, unflagged, zeros}
+use Rattle.uslp_demands.proofs.Alike.{alike}
+
+-- the functions, each with its promise
+abbrev fn-len-written : Function
+fn-len-written = record { lifetimes = _; params = frame.TransferFrameCreator.len_written.Kinds.ps; result = frame.TransferFrameCreator.len_written.Kinds.r; asks = frame.TransferFrameCreator.len_written.Reads.Pre; learnt = frame.TransferFrameCreator.len_written.Reads.Learnt }
+
+abbrev fn-write-to-slice : Function
+fn-write-to-slice = record { lifetimes = _; params = frame.TransferFrameCreator.write_to_slice.Kinds.ps; result = frame.TransferFrameCreator.write_to_slice.Kinds.r; asks = frame.TransferFrameCreator.write_to_slice.Reads.Pre; learnt = frame.TransferFrameCreator.write_to_slice.Reads.Learnt }
+
+abbrev fn-new : Function
+fn-new = record { lifetimes = _; params = frame.TransferFrameCreatorWithReservedData.new.Kinds.ps; result = frame.TransferFrameCreatorWithReservedData.new.Kinds.r; asks = frame.TransferFrameCreatorWithReservedData.new.Reads.Pre; learnt = frame.TransferFrameCreatorWithReservedData.new.Reads.Learnt }
+
+abbrev fn-transfer-frame-creator-with-reserved-data-len-written : Function
+fn-transfer-frame-creator-with-reserved-data-len-written = record { lifetimes = _; params = frame.TransferFrameCreatorWithReservedData.len_written.Kinds.ps; result = frame.TransferFrameCreatorWithReservedData.len_written.Kinds.r; asks = frame.TransferFrameCreatorWithReservedData.len_written.Reads.Pre; learnt = frame.TransferFrameCreatorWithReservedData.len_written.Reads.Learnt }
+
+abbrev fn-data : Function
+fn-data = record { lifetimes = _; params = frame.TransferFrameCreatorWithReservedData.data.Kinds.ps; result = frame.TransferFrameCreatorWithReservedData.data.Kinds.r; asks = frame.TransferFrameCreatorWithReservedData.data.Reads.Pre; learnt = frame.TransferFrameCreatorWithReservedData.data.Reads.Learnt }
+
+abbrev fn-data-mut : Function
+fn-data-mut = record { lifetimes = _; params = frame.TransferFrameCreatorWithReservedData.data_mut.Kinds.ps; result = frame.TransferFrameCreatorWithReservedData.data_mut.Kinds.r; asks = frame.TransferFrameCreatorWithReservedData.data_mut.Reads.Pre; learnt = frame.TransferFrameCreatorWithReservedData.data_mut.Reads.Learnt }
+
+abbrev fn-finish : Function
+fn-finish = record { lifetimes = _; params = frame.TransferFrameCreatorWithReservedData.finish.Kinds.ps; result = frame.TransferFrameCreatorWithReservedData.finish.Kinds.r; asks = frame.TransferFrameCreatorWithReservedData.finish.Reads.Pre; learnt = frame.TransferFrameCreatorWithReservedData.finish.Reads.Learnt }
+
+-- four numbers that no call made: an area behind the total, and sizes whose sum no machine number holds
+abbrev small : TransferFrameCreatorWithReservedData
+small = record { «data_index» = 3; «data_size» = 4; «len_written» = 6; «has_fecf» = false }
+
+abbrev huge : TransferFrameCreatorWithReservedData
+huge = record { «data_index» = 0xFFFFFFFFFFFFFFFF; «data_size» = 2; «len_written» = 6; «has_fecf» = false }
+
+abbrev sealing : TransferFrameCreatorWithReservedData
+sealing = record { «data_index» = 0; «data_size» = 1; «len_written» = 3; «has_fecf» = true }
+
+pub len-written-settles : Settles fn-len-written
+len-written-settles = record { total = λ κs a. tt; same = λ κs a x y s t. alike (one-to-one paperLength (back length-answer.Done length-answer.Refused) length-back (s ∙ sym t)) refl }
+
+-- one octet too many, its length wrapped
+pub len-written-wrapped : Allows fn-len-written tt (plain, (65529, tt)) (length-answer.Done 0, (tt, (tt, tt))) → ⊥
+unfolding frameLength
+len-written-wrapped e = let z : _≡_ {A = ℕ} 0 1 = cc in omega arith
+
+-- an OCF flag with no OCF
+pub len-written-lax : Allows fn-len-written tt (unflagged, (2, tt)) (length-answer.Done 15, (tt, (tt, tt))) → ⊥
+unfolding frameLength
+len-written-lax e = let z : _≡_ {A = ℕ} 0 1 = cc in omega arith
+
+pub write-to-slice-settles : Settles fn-write-to-slice
+write-to-slice-settles = record { total = λ κs a. tt; same = λ κs a x y s t. let e = leaving-one (s ∙ sym t) in alike (one-to-one paperLength (back length-answer.Done length-answer.Refused) length-back (e .0)) (λ i. (tt, (tt, (e .1 i, tt)))) }
+
+-- writes nothing and says done
+pub write-to-slice-idle : Allows fn-write-to-slice ([], ([], tt)) (plain, (at (0x0A ∷ 0xF0 ∷ []), (at zeros, tt))) (length-answer.Done 10, (tt, (tt, (zeros, tt)))) → ⊥
+unfolding frameWriting
+write-to-slice-idle e = let z : _≡_ {A = ℕ} 0 0xC1 = cc in omega arith
+
+-- writes a frame whose OCF flag has no OCF
+pub write-to-slice-lax : Allows fn-write-to-slice ([], ([], tt)) (unflagged, (at [], (at [], tt))) (length-answer.Refused (ShortTarget 0 13), (tt, (tt, ([], tt)))) → ⊥
+unfolding frameWriting
+write-to-slice-lax e = let z : _≡_ {A = ℕ} 0 1 = cc in omega arith
+
+pub reserve-settles : Settles fn-new
+reserve-settles = record { total = λ κs a. tt; same = λ κs a x y s t. let e = leaving-one (s ∙ sym t) in alike (one-to-one paperReserved (back reserved-answer.Done reserved-answer.Refused) reserved-back (e .0)) (λ i. (tt, (tt, (e .1 i, tt)))) }
+
+-- clears the data area
+pub reserve-cleared : Allows fn-new ([], tt) (plain, (2, (at (1 ∷ 1 ∷ 1 ∷ 1 ∷ 1 ∷ 1 ∷ 1 ∷ 1 ∷ 1 ∷ 1 ∷ []), tt))) (reserved-answer.Done (record { «data_index» = 8; «data_size» = 2; «len_written» = 10; «has_fecf» = false }), (tt, (tt, (0xC1 ∷ 0x23 ∷ 0x48 ∷ 0xA6 ∷ 0 ∷ 9 ∷ 0 ∷ 0xE4 ∷ 0 ∷ 0 ∷ [], tt)))) → ⊥
+unfolding reserving
+reserve-cleared e = let z : _≡_ {A = ℕ} 0 1 = cc in omega arith
+
+-- says that the data start behind the primary header
+pub reserve-start : Allows fn-new ([], tt) (plain, (2, (at (1 ∷ 1 ∷ 1 ∷ 1 ∷ 1 ∷ 1 ∷ 1 ∷ 1 ∷ 1 ∷ 1 ∷ []), tt))) (reserved-answer.Done (record { «data_index» = 7; «data_size» = 2; «len_written» = 10; «has_fecf» = false }), (tt, (tt, (0xC1 ∷ 0x23 ∷ 0x48 ∷ 0xA6 ∷ 0 ∷ 9 ∷ 0 ∷ 0xE4 ∷ 1 ∷ 1 ∷ [], tt)))) → ⊥
+unfolding reserving
+reserve-start e = let z : _≡_ {A = ℕ} 7 8 = ap (λ (k : TransferFrameCreatorWithReservedData). k .«data_index») (done-one (leaving-one e .0)) in omega arith
+
+pub reserved-len-settles : Settles fn-transfer-frame-creator-with-reserved-data-len-written
+reserved-len-settles = record { total = λ κs a. tt; same = λ κs a x y s t. alike (s ∙ sym t) refl }
+
+-- start plus size
+pub reserved-len-sum : Allows fn-transfer-frame-creator-with-reserved-data-len-written tt (small, tt) (7, (tt, tt)) → ⊥
+reserved-len-sum e = omega arith
+
+-- the data size
+pub reserved-len-size : Allows fn-transfer-frame-creator-with-reserved-data-len-written tt (small, tt) (4, (tt, tt)) → ⊥
+reserved-len-size e = omega arith
+
+pub reserved-data-shows : Shows fn-data (λ κs a r. now r)
+reserved-data-shows = record { total = λ κs a. tt; same = λ κs a x y s t. s ∙ sym t }
+
+-- shows the area though finishing would refuse; shows nothing though it would not
+pub reserved-data-lax : (r : RefT (List ℕ)) → now r ≡ 4 ∷ 5 ∷ 6 ∷ 7 ∷ [] → Allows fn-data ([], tt) (small, (at (1 ∷ 2 ∷ 3 ∷ 4 ∷ 5 ∷ 6 ∷ 7 ∷ []), tt)) (r, (tt, (tt, tt))) → ⊥
+unfolding finishLength
+reserved-data-lax r h e = let z : _≡_ {A = ℕ} 0 1 = cc in omega arith
+
+pub reserved-data-none : (r : RefT (List ℕ)) → now r ≡ [] → Allows fn-data ([], tt) (sealing, (at (1 ∷ 2 ∷ 3 ∷ []), tt)) (r, (tt, (tt, tt))) → ⊥
+unfolding finishLength
+reserved-data-none r h e = let z : _≡_ {A = ℕ} 0 1 = cc in omega arith
+
+pub reserved-data-mut-shows : Shows fn-data-mut (λ κs a r. now r)
+reserved-data-mut-shows = record { total = λ κs a. tt; same = λ κs a x y s t. s ∙ sym t }
+
+pub finish-settles : Settles fn-finish
+finish-settles = record { total = λ κs a. tt; same = λ κs a x y s t. let e = leaving-one (s ∙ sym t) in alike (one-to-one paperLength (back length-answer.Done length-answer.Refused) length-back (e .0)) (λ i. (tt, (e .1 i, tt))) }
+
+-- start plus size wrapped
+pub finish-wrapped : Allows fn-finish ([], tt) (huge, (at (1 ∷ 2 ∷ 3 ∷ 4 ∷ 5 ∷ 6 ∷ []), tt)) (length-answer.Done 6, (tt, (1 ∷ 2 ∷ 3 ∷ 4 ∷ 5 ∷ 6 ∷ [], tt))) → ⊥
+unfolding finishLength
+finish-wrapped e = let z : _≡_ {A = ℕ} 0 1 = cc in omega arith
+
+-- leaves the FECF out
+pub finish-unsealed : Allows fn-finish ([], tt) (sealing, (at (0x31 ∷ 0 ∷ 0 ∷ []), tt)) (length-answer.Done 3, (tt, (0x31 ∷ 0 ∷ 0 ∷ [], tt))) → ⊥
+unfolding finishLength checksumOf feed bits lows bit step
+finish-unsealed e = let z : _≡_ {A = ℕ} 0 0xC7 = cc in omega arith
