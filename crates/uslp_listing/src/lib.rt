@@ -14,6 +14,9 @@ ghost use Rattle.uslp_kinds.specs.Answers.{paperLength};
 ghost use Rattle.uslp_text.specs.Text.{decimal, Told};
 ghost use Rattle.uslp_listing.specs.Listing.{heading, line, summary, linesFrom, room, listingOver};
 
+// The most octets that a recording may have.
+pub const MAX_RECORDING_LEN: usize = 65536;
+
 // A buffer of this length holds the listing of any recording.
 pub const LISTING_ROOM: usize = 524400;
 
@@ -29,7 +32,7 @@ pub fn list(recording: &[u8], out: &mut [u8]) -> LengthAnswer
         });
     }
     let at = put_text(b"at length spacecraft channel map count data\n", out, 0);
-    if recording.len() > 65536 {
+    if recording.len() > MAX_RECORDING_LEN {
         return LengthAnswer::Done(put_summary(0, 0, 12, out, at));
     }
     LengthAnswer::Done(put_lines(recording, out, at))
