@@ -3,6 +3,15 @@ ghost use mathlib.Core.Path.{_≡_};
 ghost use Rattle.uslp_kinds.specs.Kinds.{sourceOrDestNumber, sourceOrDestOf, bypassNumber, bypassOf, commandNumber, commandOf, ruleNumber, ruleOf, fixedLength, protocolNumber, protocolOf};
 ghost use Rattle.uslp_kinds.specs.Answers.{refusalNumber, paperProtocol};
 
+// The largest values of the fields that a number can be too large for, and the most octets of a frame.
+pub const MAX_VC_ID: u8 = 63;
+
+pub const MAX_MAP_ID: u8 = 15;
+
+pub const MAX_COUNT_LEN: u8 = 7;
+
+pub const MAX_FRAME_LEN: usize = 65536;
+
 // Whether the spacecraft id names the source or the destination of the frame.
 pub enum SourceOrDestField {
     Source,

@@ -1,6 +1,10 @@
 // The primary header of a frame: a value, whose methods take it and hand back a new one.
 use fixed::bit_of;
 use uslp_kinds::BypassSequenceControlFlag;
+use uslp_kinds::MAX_COUNT_LEN;
+use uslp_kinds::MAX_FRAME_LEN;
+use uslp_kinds::MAX_MAP_ID;
+use uslp_kinds::MAX_VC_ID;
 use uslp_kinds::ProtocolControlCommandFlag;
 use uslp_kinds::Refusal;
 use uslp_kinds::SourceOrDestField;
@@ -14,6 +18,9 @@ mod reading;
 mod writing;
 
 pub const USLP_VERSION_NUMBER: u8 = 12;
+
+// The octets before the count.
+pub const FIXED_LEN: usize = 7;
 
 pub struct PrimaryHeader {
     pub spacecraft_id: u16,
@@ -45,10 +52,10 @@ impl PrimaryHeader {
     ) -> HeaderAnswer
         ensures { λ r. ⌜ paperHeader r ≡ headerMaking «spacecraft_id» «source_or_dest_field» «vc_id» «map_id» «frame_len» ⌝ }
     {
-        if vc_id > 63 {
+        if vc_id > MAX_VC_ID {
             return HeaderAnswer::Refused(Refusal::BadField);
         }
-        if map_id > 15 {
+        if map_id > MAX_MAP_ID {
             return HeaderAnswer::Refused(Refusal::BadField);
         }
         HeaderAnswer::Done(PrimaryHeader {
@@ -69,7 +76,7 @@ impl PrimaryHeader {
     pub fn with_vc_frame_count(self, count_len: u8, count: u64) -> HeaderAnswer
         ensures { λ r. ⌜ paperHeader r ≡ countSetting self «count_len» count ⌝ }
     {
-        if count_len > 7 {
+        if count_len > MAX_COUNT_LEN {
             return HeaderAnswer::Refused(Refusal::BadField);
         }
         if count_bad(count_len, count) {
@@ -88,7 +95,7 @@ impl PrimaryHeader {
     pub fn with_frame_len(self, frame_len: usize) -> HeaderAnswer
         ensures { λ r. ⌜ paperHeader r ≡ lengthSetting self «frame_len» ⌝ }
     {
-        if frame_len > 65536 {
+        if frame_len > MAX_FRAME_LEN {
             return HeaderAnswer::Refused(Refusal::TooLong);
         }
         let mut header = self;
@@ -111,7 +118,7 @@ impl PrimaryHeader {
     pub fn len_header(self) -> usize
         ensures { λ r. ⌜ r ≡ lenHeader self ⌝ }
     {
-        7 + self.vc_frame_count_len as usize
+        FIXED_LEN + self.vc_frame_count_len as usize
     }
 
     pub fn len_frame(self) -> usize

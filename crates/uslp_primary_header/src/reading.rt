@@ -1,4 +1,5 @@
 // Reading the primary header.
+use crate::FIXED_LEN;
 use crate::HeaderAnswer;
 use crate::PrimaryHeader;
 use crate::USLP_VERSION_NUMBER;
@@ -25,19 +26,22 @@ impl PrimaryHeader {
         if buf[3] % 2 == 1 {
             return HeaderAnswer::Refused(Refusal::Truncated);
         }
-        if found < 7 {
-            return HeaderAnswer::Refused(Refusal::ShortSource { found, expected: 7 });
+        if found < FIXED_LEN {
+            return HeaderAnswer::Refused(Refusal::ShortSource {
+                found,
+                expected: FIXED_LEN,
+            });
         }
-        let fixed = number_in(&buf[0..7]);
+        let fixed = number_in(&buf[0..FIXED_LEN]);
         let version = (fixed / VERSION % 16) as u8;
         if version != USLP_VERSION_NUMBER {
             return HeaderAnswer::Refused(Refusal::BadVersion(version));
         }
-        let expected = 7 + (fixed % 8) as usize;
+        let expected = FIXED_LEN + (fixed % 8) as usize;
         if found < expected {
             return HeaderAnswer::Refused(Refusal::ShortSource { found, expected });
         }
-        HeaderAnswer::Done(header_of(fixed, read_count(&buf[7..expected])))
+        HeaderAnswer::Done(header_of(fixed, read_count(&buf[FIXED_LEN..expected])))
     }
 }
 

@@ -1,8 +1,12 @@
 // Writing the primary header.
+use crate::FIXED_LEN;
 use crate::HeaderAnswer;
 use crate::PrimaryHeader;
 use crate::fixed::fixed_of;
 use uslp_kinds::LengthAnswer;
+use uslp_kinds::MAX_COUNT_LEN;
+use uslp_kinds::MAX_MAP_ID;
+use uslp_kinds::MAX_VC_ID;
 use uslp_kinds::Refusal;
 use uslp_octets::put_number;
 ghost use mathlib.Core.Path.{_≡_};
@@ -17,13 +21,13 @@ impl PrimaryHeader {
     {
         let width = self.vc_frame_count_len;
         let count = self.vc_frame_count;
-        if self.vc_id > 63 {
+        if self.vc_id > MAX_VC_ID {
             return HeaderAnswer::Refused(Refusal::BadField);
         }
-        if self.map_id > 15 {
+        if self.map_id > MAX_MAP_ID {
             return HeaderAnswer::Refused(Refusal::BadField);
         }
-        if width > 7 {
+        if width > MAX_COUNT_LEN {
             return HeaderAnswer::Refused(Refusal::BadField);
         }
         if count_bad(width, count) {
@@ -47,7 +51,7 @@ impl PrimaryHeader {
 pub fn count_bad(width: u8, count: u64) -> bool
     ensures { λ r. ⌜ r ≡ countBad width count ⌝ }
 {
-    if width > 7 {
+    if width > MAX_COUNT_LEN {
         return false;
     }
     count >> (8 * width) != 0
@@ -63,7 +67,7 @@ fn put_header(header: PrimaryHeader, buf: &mut [u8]) -> LengthAnswer
     if found < expected {
         return LengthAnswer::Refused(Refusal::ShortTarget { found, expected });
     }
-    put_number(fixed_of(header), &mut buf[0..7]);
-    put_number(header.vc_frame_count, &mut buf[7..expected]);
+    put_number(fixed_of(header), &mut buf[0..FIXED_LEN]);
+    put_number(header.vc_frame_count, &mut buf[FIXED_LEN..expected]);
     LengthAnswer::Done(expected)
 }

@@ -9,6 +9,7 @@ use crate::SLOTS;
 use crate::SlotState;
 use crate::Totals;
 use crate::search;
+use uslp_kinds::MAX_COUNT_LEN;
 use uslp_kinds::Refusal;
 ghost use mathlib.Core.Path.{_≡_};
 ghost use Prim.Native.Nat.{_+_, _≤_, _<_, _^_};
@@ -21,7 +22,7 @@ impl ChannelRecord {
     pub fn judge_count(self, channel: Channel, width: u8, count: u64) -> CountAnswer
         ensures { λ r. ⌜ paperCount r ≡ judging self channel width count ⌝ }
     {
-        if width > 7 {
+        if width > MAX_COUNT_LEN {
             return CountAnswer::Refused(Refusal::BadField);
         }
         let at = search(self, channel);

@@ -1,5 +1,7 @@
 // The channel record on numbers: eight slots by value, and what each call makes of them.
 use uslp_kinds::DoneAnswer;
+use uslp_kinds::MAX_COUNT_LEN;
+use uslp_kinds::MAX_VC_ID;
 use uslp_kinds::Refusal;
 ghost use mathlib.Core.Path.{_≡_};
 ghost use Rattle.uslp_kinds.specs.Answers.{paperDone};
@@ -103,13 +105,13 @@ impl ChannelRecord {
     pub fn open_channel(self, channel: Channel, width: u8) -> Recorded
         ensures { λ r. ⌜ keeping (paperDone (r .answer)) (r .next) ≡ opening self channel width ⌝ }
     {
-        if channel.vc_id > 63 {
+        if channel.vc_id > MAX_VC_ID {
             return refused(Refusal::BadField, self);
         }
         if width == 0 {
             return refused(Refusal::BadField, self);
         }
-        if width > 7 {
+        if width > MAX_COUNT_LEN {
             return refused(Refusal::BadField, self);
         }
         if search(self, channel) < SLOTS {

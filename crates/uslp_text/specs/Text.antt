@@ -15,10 +15,10 @@ abbrev pub text : String → List ℕ
 text string.[] = []
 text (string._∷_ c s) = code c ∷ text s
 
--- the k low decimal digits of a number, as characters: 48 is 0. The first is the most significant
+-- the k low decimal digits of a number, as characters; the first is the most significant
 abbrev pub digits : ℕ → ℕ → List ℕ
 digits zero n = []
-digits (suc k) n = (48 + n / 10 ^ k % 10) ∷ digits k n
+digits (suc k) n = (code "0" + n / 10 ^ k % 10) ∷ digits k n
 
 -- how many digits a number has: one more than a tenth of it has; k bounds them, and 20 is enough for 64 bits
 unfoldable pub widthIn : ℕ → ℕ → ℕ

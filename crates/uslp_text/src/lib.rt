@@ -25,7 +25,7 @@ pub fn put_decimal(value: u64, to: &mut [u8])
     let mut i: usize = to.len();
     while 0 < i {
         i -= 1;
-        to[i] = 48 + (rest % 10) as u8;
+        to[i] = b'0' + (rest % 10) as u8;
         rest = rest / 10;
     }
 }
