@@ -1,5 +1,4 @@
 -- What the check of a header's pointer says, path by path, and that it decides first in any longer order of checks.
--- Assumes nothing.
 use mathlib.Core.Path.{_≡_, refl, ap, sym, _∙_}
 use mathlib.Core.Bool.{Bool, true, false, cond}
 use mathlib.Core.List.{List, [], _∷_, _++_}

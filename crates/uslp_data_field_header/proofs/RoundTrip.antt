@@ -1,5 +1,4 @@
 -- A header that was written is read back, and one that was read is written back; an answer on paper has its way back.
--- Assumes nothing.
 use mathlib.Core.Path.{_≡_, refl, ap, sym, _∙_}
 use mathlib.Core.Bool.{Bool, true, false, cond, not, _&&_}
 use mathlib.Core.List.{List, [], _∷_, _++_}

@@ -1,5 +1,4 @@
 -- Laws of `firstOf` where each check refuses: any number of them, also in front of others.
--- Assumes nothing.
 use mathlib.Core.Path.{_≡_, refl, sym}
 use Prim.Native.Nat.{ℕ, zero, suc}
 use mathlib.Core.Bool.{Bool, true, false}

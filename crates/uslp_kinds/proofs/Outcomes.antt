@@ -1,5 +1,4 @@
 -- What an outcome tells of the checks that it came by, for any calls.
--- Assumes nothing.
 use mathlib.Core.Path.{_≡_, refl, sym}
 use mathlib.Core.Bool.{Bool, true, false, cond}
 use mathlib.Core.List.{List}

@@ -1,5 +1,4 @@
 -- The loop over the frames: what holds at a place, and how a frame, a refusal and the end carry it on.
--- Assumes nothing.
 use mathlib.Core.Path.{_≡_, refl, ap, sym, _∙_}
 use Prim.Native.Nat.{ℕ, _+_, _-_, _*_, _<_, _≤_}
 use mathlib.Core.Bool.{Bool, true, false, cond}

@@ -1,5 +1,4 @@
 -- What `headerMaking`, `countSetting` and `lengthSetting` say, path by path.
--- Assumes nothing.
 use mathlib.Core.Path.{_≡_, ap}
 use Prim.Native.Nat.{ℕ, _^_, _-_, _<_, _≤_}
 use mathlib.Core.Bool.{false}

@@ -1,4 +1,4 @@
--- What each way through opening and closing leaves is what the rule says. Assumes nothing.
+-- What each way through opening and closing leaves is what the rule says.
 use mathlib.Core.Path.{_≡_}
 use mathlib.Core.List.{[]}
 use Prim.Native.Nat.{ℕ, _<_, _≤_}

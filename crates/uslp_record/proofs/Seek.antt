@@ -1,5 +1,4 @@
 -- Laws of the search over eight slots, for whichever slot is sought, and of a slot replaced past the end.
--- Assumes nothing.
 use mathlib.Core.Path.{_≡_, refl, sym, _∙_, ap}
 use mathlib.Core.Bool.{Bool, true, false, cond}
 use mathlib.Core.List.{List, [], _∷_, map}

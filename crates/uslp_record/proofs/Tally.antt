@@ -1,4 +1,4 @@
--- Laws of the console total: what the loop has summed of the slots that it passed. Assumes nothing.
+-- Laws of the console total: what the loop has summed of the slots that it passed.
 use mathlib.Core.Path.{_≡_, refl, sym, _∙_, ap}
 use mathlib.Core.Bool.{Bool, false, _||_}
 use mathlib.Core.List.{List, []}

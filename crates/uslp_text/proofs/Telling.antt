@@ -1,5 +1,4 @@
 -- Laws of texts that are told in a buffer: one behind another, nothing, and all of one that has its room.
--- Assumes nothing.
 use mathlib.Core.Path.{_≡_, refl, ap, ap₂, sym, subst, _∙_}
 use Prim.Native.Nat.{ℕ, zero, suc, _+_, _-_, _≤_, min}
 use mathlib.Core.List.{List, [], _∷_, _++_, append-nil}

@@ -1,23 +1,10 @@
 -- `uslp_data_field_header::pointer_bad` meets its contract: each arm is one clause of `pointerBad`.
--- Assumes nothing.
 use mathlib.Core.Path.{sym, ap, _∙_}
 use mathlib.Core.Bool.{not}
 use Rattle.uslp_data_field_header.specs.Field.{pointerBad}
 use borrow.Author.Needs.{needs}
 use Rattle.uslp_data_field_header.proofs.pointer_bad.Statement.{statement}
 use Rattle.uslp_data_field_header.proofs.pointer_bad.Tie as tie
-
-enum-told : tie.Need-enum-told
-enum-told c = search needs
-
-applicable-to-fixed-len-tfdz-requires : tie.Need-applicable-to-fixed-len-tfdz-requires
-applicable-to-fixed-len-tfdz-requires c κs = search needs
-
-enum-told-2 : tie.Need-enum-told-2
-enum-told-2 c = search needs
-
-applicable-to-fixed-len-tfdz-requires-2 : tie.Need-applicable-to-fixed-len-tfdz-requires-2
-applicable-to-fixed-len-tfdz-requires-2 c κs = search needs
 
 returns : tie.Need-returns
 returns c = c .applicable-to-fixed-len-tfdz .ensures ∙ sym (ap (pointerBad (c .before .before .before .args .rule)) (c .before .enum-told .given .1))
@@ -29,9 +16,9 @@ pub pointer-bad-spec : {M : Type 1} → statement M
 pointer-bad-spec =
     tie.close
     (tie.spec
-    enum-told
-    applicable-to-fixed-len-tfdz-requires
-    enum-told-2
-    applicable-to-fixed-len-tfdz-requires-2
+    (λ c. search needs)
+    (λ c κs. search needs)
+    (λ c. search needs)
+    (λ c κs. search needs)
     returns
     returns-2)

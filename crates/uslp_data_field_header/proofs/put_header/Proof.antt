@@ -1,5 +1,4 @@
 -- `uslp_data_field_header::put_header` meets its contract: the octets that its stores leave are those of the table.
--- Assumes nothing.
 use mathlib.Core.Path.{_∙_, ap₂, sym}
 use Prim.Native.Nat.{ℕ, _+_, _*_}
 use native.Mathlib.Omega.{arith}
@@ -11,22 +10,13 @@ use borrow.Author.Needs.{needs}
 use Rattle.uslp_data_field_header.proofs.put_header.Statement.{statement}
 use Rattle.uslp_data_field_header.proofs.put_header.Tie as tie
 
-len-header-requires : tie.Need-len-header-requires
-len-header-requires c κs = search needs
-
 returns : tie.Need-returns
 returns c =
     let a = c .before .before .before in
     sym (writing-short (a .args .header) (a .args .buf .now) (a .pre) _ (c .before .len-header .ensures) (c .if1 .taken))
 
-number-requires : tie.Need-number-requires
-number-requires c κs = search needs
-
 mul-buf : tie.Need-mul-buf
 mul-buf c = omega (arith, c .number .ensures, rule-lt (c .before .before .before .before .args .header .«construction_rule»))
-
-number-requires-2 : tie.Need-number-requires-2
-number-requires-2 c κs = search needs
 
 add-buf : tie.Need-add-buf
 add-buf c =
@@ -38,30 +28,12 @@ slice-write-buf c =
     let l = c .before .before .before in
     omega (arith, l .len-header .ensures, c .before .before .if1 .left, one-at-least (l .before .before .args .header))
 
-enum-known-pointer : tie.Need-enum-known-pointer
-enum-known-pointer c = search needs
-
-cast-put-number : tie.Need-cast-put-number
-cast-put-number c = search needs
-
-sub-put-number : tie.Need-sub-put-number
-sub-put-number c = search needs
-
-part-put-number-start : tie.Need-part-put-number-start
-part-put-number-start c = search needs
-
 part-put-number-end : tie.Need-part-put-number-end
 part-put-number-end c =
     let l = c .before .before .before .before .before .before in
     let a = l .before .before in
     let three = pointer-len (a .args .header) (a .pre) _ (c .before .pointer .given .1) in
     simp length-set (omega (arith, three, l .len-header .ensures, c .before .before .before .before .before .if1 .left))
-
-put-number-requires : tie.Need-put-number-requires
-put-number-requires c κs = search needs
-
-enum-told : tie.Need-enum-told
-enum-told c = search needs
 
 same-length : tie.Need-same-length
 same-length c = c .before .buf .given .1 ∙ simp length-set
@@ -76,9 +48,6 @@ returns-2 c =
     (ap₂ (λ (r i : ℕ). r * 32 + i) (m .before .number .ensures) (m .number2 .ensures))
     _ _ (k .before .pointer .given .1) (omega (arith, k .known-told .given)) (c .before .before .put-number .ensures)
 
-same-length-2 : tie.Need-same-length-2
-same-length-2 c = search needs
-
 returns-3 : tie.Need-returns-3
 returns-3 c =
     let m = c .before .before in
@@ -92,21 +61,21 @@ pub put-header-spec : {M : Type 1} → statement M
 put-header-spec =
     tie.close
     (tie.spec
-    len-header-requires
+    (λ c κs. search needs)
     returns
-    number-requires
+    (λ c κs. search needs)
     mul-buf
-    number-requires-2
+    (λ c κs. search needs)
     add-buf
     slice-write-buf
-    enum-known-pointer
-    cast-put-number
-    sub-put-number
-    part-put-number-start
+    (λ c. search needs)
+    (λ c. search needs)
+    (λ c. search needs)
+    (λ c. search needs)
     part-put-number-end
-    put-number-requires
-    enum-told
+    (λ c κs. search needs)
+    (λ c. search needs)
     same-length
     returns-2
-    same-length-2
+    (λ c. search needs)
     returns-3)

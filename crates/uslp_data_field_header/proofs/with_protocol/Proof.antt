@@ -1,20 +1,10 @@
 -- `uslp_data_field_header::with_protocol` meets its contract: each arm is one case of `protocolOf`.
--- Assumes nothing.
 use mathlib.Core.Path.{sym, _∙_, ap}
 use Rattle.uslp_kinds.specs.Answers.{paperProtocol}
 use Rattle.uslp_data_field_header.proofs.Reading.{with-known, with-unknown}
 use borrow.Author.Needs.{needs}
 use Rattle.uslp_data_field_header.proofs.with_protocol.Statement.{statement}
 use Rattle.uslp_data_field_header.proofs.with_protocol.Tie as tie
-
-from-number-requires : tie.Need-from-number-requires
-from-number-requires c κs = search needs
-
-enum-known-id : tie.Need-enum-known-id
-enum-known-id c = search needs
-
-enum-known-refusal : tie.Need-enum-known-refusal
-enum-known-refusal c = search needs
 
 returns : tie.Need-returns
 returns c =
@@ -30,4 +20,4 @@ returns-2 c =
 
 pub with-protocol-spec : {M : Type 1} → statement M
 with-protocol-spec =
-    tie.close (tie.spec from-number-requires enum-known-id enum-known-refusal returns returns-2)
+    tie.close (tie.spec (λ c κs. search needs) (λ c. search needs) (λ c. search needs) returns returns-2)

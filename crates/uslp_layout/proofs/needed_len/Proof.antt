@@ -5,35 +5,23 @@ use borrow.Author.Needs.{needs}
 use Rattle.uslp_layout.proofs.needed_len.Statement.{statement}
 use Rattle.uslp_layout.proofs.needed_len.Tie as tie
 
-data-start-requires : tie.Need-data-start-requires
-data-start-requires c κs = search needs
-
-ocf-len-requires : tie.Need-ocf-len-requires
-ocf-len-requires c κs = search needs
-
 add-result : tie.Need-add-result
 add-result c =
     let start = c .before .before in
     omega (arith, c .before .data-start .ensures, c .ocf-len .ensures, field-le (start .args .field), cond-le (start .args .header .«ocf_flag») 4 0 (omega arith), start)
-
-fecf-len-requires : tie.Need-fecf-len-requires
-fecf-len-requires c κs = search needs
 
 add-result-2 : tie.Need-add-result-2
 add-result-2 c =
     let start = c .before .before .before in
     omega (arith, c .before .before .data-start .ensures, c .before .ocf-len .ensures, c .fecf-len .ensures, field-le (start .args .field), cond-le (start .args .header .«ocf_flag») 4 0 (omega arith), cond-le (start .args .has-fecf) 2 0 (omega arith), start)
 
-returns : tie.Need-returns
-returns c = search needs
-
 pub needed-len-spec : {M : Type 1} → statement M
 needed-len-spec =
     tie.close
     (tie.spec
-    data-start-requires
-    ocf-len-requires
+    (λ c κs. search needs)
+    (λ c κs. search needs)
     add-result
-    fecf-len-requires
+    (λ c κs. search needs)
     add-result-2
-    returns)
+    (λ c. search needs))

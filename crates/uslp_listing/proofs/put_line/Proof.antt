@@ -1,65 +1,10 @@
 -- `put_line` meets its contract: word by word, each behind the one before it.
--- Assumes nothing.
 use mathlib.Core.Path.{ap}
 use Rattle.uslp_text.proofs.Telling.{told-as, told-more, told-long}
 use Rattle.uslp_listing.specs.Listing.{word}
 use borrow.Author.Needs.{needs}
 use Rattle.uslp_listing.proofs.put_line.Statement.{statement}
 use Rattle.uslp_listing.proofs.put_line.Tie as tie
-
-slice-aggregate-put-word : tie.Need-slice-aggregate-put-word
-slice-aggregate-put-word c = search needs
-
-put-word-requires : tie.Need-put-word-requires
-put-word-requires c κs = search needs
-
-len-frame-requires : tie.Need-len-frame-requires
-len-frame-requires c κs = search needs
-
-slice-aggregate-put-word-2 : tie.Need-slice-aggregate-put-word-2
-slice-aggregate-put-word-2 c = search needs
-
-put-word-requires-2 : tie.Need-put-word-requires-2
-put-word-requires-2 c κs = search needs
-
-cast-put-word : tie.Need-cast-put-word
-cast-put-word c = search needs
-
-slice-aggregate-put-word-3 : tie.Need-slice-aggregate-put-word-3
-slice-aggregate-put-word-3 c = search needs
-
-put-word-requires-3 : tie.Need-put-word-requires-3
-put-word-requires-3 c κs = search needs
-
-cast-put-word-2 : tie.Need-cast-put-word-2
-cast-put-word-2 c = search needs
-
-slice-aggregate-put-word-4 : tie.Need-slice-aggregate-put-word-4
-slice-aggregate-put-word-4 c = search needs
-
-put-word-requires-4 : tie.Need-put-word-requires-4
-put-word-requires-4 c κs = search needs
-
-cast-put-word-3 : tie.Need-cast-put-word-3
-cast-put-word-3 c = search needs
-
-slice-aggregate-put-word-5 : tie.Need-slice-aggregate-put-word-5
-slice-aggregate-put-word-5 c = search needs
-
-put-word-requires-5 : tie.Need-put-word-requires-5
-put-word-requires-5 c κs = search needs
-
-slice-aggregate-put-word-6 : tie.Need-slice-aggregate-put-word-6
-slice-aggregate-put-word-6 c = search needs
-
-put-word-requires-6 : tie.Need-put-word-requires-6
-put-word-requires-6 c κs = search needs
-
-slice-aggregate-put-word-7 : tie.Need-slice-aggregate-put-word-7
-slice-aggregate-put-word-7 c = search needs
-
-put-word-requires-7 : tie.Need-put-word-requires-7
-put-word-requires-7 c κs = search needs
 
 returns : tie.Need-returns
 returns c =
@@ -84,23 +29,23 @@ pub put-line-spec : {M : Type 1} → statement M
 put-line-spec =
     tie.close
     (tie.spec
-    slice-aggregate-put-word
-    put-word-requires
-    len-frame-requires
-    slice-aggregate-put-word-2
-    put-word-requires-2
-    cast-put-word
-    slice-aggregate-put-word-3
-    put-word-requires-3
-    cast-put-word-2
-    slice-aggregate-put-word-4
-    put-word-requires-4
-    cast-put-word-3
-    slice-aggregate-put-word-5
-    put-word-requires-5
-    slice-aggregate-put-word-6
-    put-word-requires-6
-    slice-aggregate-put-word-7
-    put-word-requires-7
+    (λ c. search needs)
+    (λ c κs. search needs)
+    (λ c κs. search needs)
+    (λ c. search needs)
+    (λ c κs. search needs)
+    (λ c. search needs)
+    (λ c. search needs)
+    (λ c κs. search needs)
+    (λ c. search needs)
+    (λ c. search needs)
+    (λ c κs. search needs)
+    (λ c. search needs)
+    (λ c. search needs)
+    (λ c κs. search needs)
+    (λ c. search needs)
+    (λ c κs. search needs)
+    (λ c. search needs)
+    (λ c κs. search needs)
     same-length
     returns)

@@ -1,5 +1,4 @@
 -- `put_lines` meets its contract. The loop's invariant: what is told from the place on completes the text.
--- Assumes nothing.
 use mathlib.Core.Path.{_≡_, refl, ap, sym, _∙_}
 use Prim.Native.Nat.{ℕ, _-_}
 use mathlib.Core.Bool.{false}
@@ -25,27 +24,6 @@ abbrev μ-loop : tie.MeasureT-loop
 
 loop-holds : tie.Need-loop-holds Inv-loop μ-loop
 loop-holds c = passed-none _ _ _
-
-sub-from-bytes : tie.Need-sub-from-bytes Inv-loop μ-loop
-sub-from-bytes c = search needs
-
-part-from-bytes-start : tie.Need-part-from-bytes-start Inv-loop μ-loop
-part-from-bytes-start c = search needs
-
-part-from-bytes-end : tie.Need-part-from-bytes-end Inv-loop μ-loop
-part-from-bytes-end c = search needs
-
-from-bytes-requires : tie.Need-from-bytes-requires Inv-loop μ-loop
-from-bytes-requires c κs = search needs
-
-enum-known-frame : tie.Need-enum-known-frame Inv-loop μ-loop
-enum-known-frame c = search needs
-
-put-line-requires : tie.Need-put-line-requires Inv-loop μ-loop
-put-line-requires c κs = search needs
-
-len-frame-requires : tie.Need-len-frame-requires Inv-loop μ-loop
-len-frame-requires c κs = search needs
 
 -- the loop, from behind the reading; and the function's entry
 abbrev loopOf : tie.After-from-bytes Inv-loop μ-loop → tie.At-loop Inv-loop μ-loop
@@ -91,15 +69,6 @@ add-frames c = let i = loopOf (frameOf c .before .before .before) .loop .inv in 
 loop-less : tie.Need-loop-less Inv-loop μ-loop
 loop-less c = omega (arith, loop-again c .inside, c .len-frame .ensures, frame-eight _ (reading (frameOf c)))
 
-enum-known-refusal : tie.Need-enum-known-refusal Inv-loop μ-loop
-enum-known-refusal c = search needs
-
-number-requires : tie.Need-number-requires Inv-loop μ-loop
-number-requires c κs = search needs
-
-put-summary-requires : tie.Need-put-summary-requires Inv-loop μ-loop
-put-summary-requires c κs = search needs
-
 returns : tie.Need-returns Inv-loop μ-loop
 returns c =
     let p = c .before .before in
@@ -111,9 +80,6 @@ returns c =
 
 same-length : tie.Need-same-length Inv-loop μ-loop
 same-length c = told-long (returns c .0)
-
-put-summary-requires-2 : tie.Need-put-summary-requires-2 Inv-loop μ-loop
-put-summary-requires-2 c κs = search needs
 
 returns-2 : tie.Need-returns-2 Inv-loop μ-loop
 returns-2 c = let l = c .before .before .before .before .before in passed-all (startOf l .pre) (l .loop .inv) (omega arith) (c .before .before .put-summary2 .ensures)
@@ -128,22 +94,22 @@ put-lines-spec =
     Inv-loop
     μ-loop
     loop-holds
-    sub-from-bytes
-    part-from-bytes-start
-    part-from-bytes-end
-    from-bytes-requires
-    enum-known-frame
-    put-line-requires
-    len-frame-requires
+    (λ c. search needs)
+    (λ c. search needs)
+    (λ c. search needs)
+    (λ c κs. search needs)
+    (λ c. search needs)
+    (λ c κs. search needs)
+    (λ c κs. search needs)
     add-place
     add-frames
     loop-less
     loop-again
-    enum-known-refusal
-    number-requires
-    put-summary-requires
+    (λ c. search needs)
+    (λ c κs. search needs)
+    (λ c κs. search needs)
     same-length
     returns
-    put-summary-requires-2
+    (λ c κs. search needs)
     same-length-2
     returns-2)

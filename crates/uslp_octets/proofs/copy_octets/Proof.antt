@@ -1,5 +1,4 @@
 -- `uslp_octets::copy_octets` meets its contract. The loop's invariant: the octets passed are pasted over the front.
--- Assumes nothing.
 use mathlib.Core.Path.{_≡_, refl, ap, ap₂, _∙_, sym}
 use Prim.Native.Nat.{ℕ, suc, _+_, _≤_, _<_, _-_}
 use mathlib.Core.List.{List, [], _∷_, _++_}
@@ -39,17 +38,8 @@ to-all s d i h e =
 loop-holds : tie.Need-loop-holds Inv-loop μ-loop
 loop-holds c = (omega arith, omega arith, refl, paste-zero (c .args .to .now) 0 (c .args .from .now))
 
-shared-slice-read-to : tie.Need-shared-slice-read-to Inv-loop μ-loop
-shared-slice-read-to c = omega arith
-
 slice-write-to : tie.Need-slice-write-to Inv-loop μ-loop
 slice-write-to c = ltb-true _ _ (c .before .if1 .taken)
-
-add-i : tie.Need-add-i Inv-loop μ-loop
-add-i c = omega arith
-
-loop-less : tie.Need-loop-less Inv-loop μ-loop
-loop-less c = omega arith
 
 loop-again : tie.Need-loop-again Inv-loop μ-loop
 loop-again c =
@@ -88,10 +78,10 @@ copy-octets-spec =
     Inv-loop
     μ-loop
     loop-holds
-    shared-slice-read-to
+    (λ c. omega arith)
     slice-write-to
-    add-i
-    loop-less
+    (λ c. omega arith)
+    (λ c. omega arith)
     loop-again
     same-length
     returns

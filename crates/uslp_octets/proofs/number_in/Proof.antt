@@ -23,18 +23,6 @@ low-more w n x y e f = omega arith
 loop-holds : tie.Need-loop-holds Inv-loop μ-loop
 loop-holds c = (omega arith, refl)
 
-shared-slice-read-moved-in : tie.Need-shared-slice-read-moved-in Inv-loop μ-loop
-shared-slice-read-moved-in c = omega arith
-
-moved-in-requires : tie.Need-moved-in-requires Inv-loop μ-loop
-moved-in-requires c κs = search needs
-
-add-i : tie.Need-add-i Inv-loop μ-loop
-add-i c = omega arith
-
-loop-less : tie.Need-loop-less Inv-loop μ-loop
-loop-less c = omega arith
-
 loop-again : tie.Need-loop-again Inv-loop μ-loop
 loop-again c = (omega arith, rw (add-one, zero-add) (low-more _ _ _ _ (c .before .before .before .loop .inv .1) (c .moved-in .ensures)))
 
@@ -47,4 +35,4 @@ returns c =
 pub number-in-spec : {M : Type 1} → statement M
 number-in-spec =
     tie.close
-    (tie.spec Inv-loop μ-loop loop-holds shared-slice-read-moved-in moved-in-requires add-i loop-less loop-again returns)
+    (tie.spec Inv-loop μ-loop loop-holds (λ c. omega arith) (λ c κs. search needs) (λ c. omega arith) (λ c. omega arith) loop-again returns)

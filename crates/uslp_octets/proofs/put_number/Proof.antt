@@ -1,5 +1,4 @@
 -- `uslp_octets::put_number` meets its contract. The loop's invariant: behind place `i` stand the number's low octets, and `rest` is what is left of it.
--- Assumes nothing.
 use mathlib.Core.Path.{_≡_, refl, ap, ap₂, _∙_}
 use Prim.Native.Nat.{ℕ, _/_, _%_, _≤_, _^_, _-_}
 use mathlib.Core.List.{List, _++_}
@@ -21,18 +20,6 @@ loop-holds : tie.Need-loop-holds Inv-loop μ-loop
 loop-holds c =
     let a = c .args in
     (omega arith, refl, rest-all 256 (length (a .to .now)) (a .value), filled-none (λ (k : ℕ). octets k (a .value)) (λ (k : ℕ). a .value / 256 ^ k % 256) (λ k. refl) (a .to .now) refl)
-
-sub-i : tie.Need-sub-i Inv-loop μ-loop
-sub-i c = omega arith
-
-cast-to : tie.Need-cast-to Inv-loop μ-loop
-cast-to c = omega arith
-
-slice-write-to : tie.Need-slice-write-to Inv-loop μ-loop
-slice-write-to c = omega arith
-
-loop-less : tie.Need-loop-less Inv-loop μ-loop
-loop-less c = omega arith
 
 loop-again : tie.Need-loop-again Inv-loop μ-loop
 loop-again c =
@@ -61,10 +48,10 @@ put-number-spec =
     Inv-loop
     μ-loop
     loop-holds
-    sub-i
-    cast-to
-    slice-write-to
-    loop-less
+    (λ c. omega arith)
+    (λ c. omega arith)
+    (λ c. omega arith)
+    (λ c. omega arith)
     loop-again
     same-length
     returns)

@@ -1,4 +1,4 @@
--- The invariant: the slots that were passed are not closed. Assumes nothing.
+-- The invariant: the slots that were passed are not closed.
 use borrow.Author.Needs.{needs}
 use Prim.Native.Nat.{_≤_, _+_, _-_}
 use mathlib.Core.Path.{_≡_}
@@ -15,24 +15,6 @@ Inv-loop slots i₀ i = (i ≤ 8) × (vacant slots ≡ i + vacant (drop i slots)
 
 abbrev μ-loop : tie.MeasureT-loop
 μ-loop slots i₀ i = 8 - i
-
-loop-holds : tie.Need-loop-holds Inv-loop μ-loop
-loop-holds c = omega arith
-
-mul-slot : tie.Need-mul-slot Inv-loop μ-loop
-mul-slot c = omega arith
-
-array-copy-out-slot : tie.Need-array-copy-out-slot Inv-loop μ-loop
-array-copy-out-slot c = omega arith
-
-state-closed-requires : tie.Need-state-closed-requires Inv-loop μ-loop
-state-closed-requires c κs = search needs
-
-add-i : tie.Need-add-i Inv-loop μ-loop
-add-i c = omega arith
-
-loop-less : tie.Need-loop-less Inv-loop μ-loop
-loop-less c = omega arith
 
 loop-again : tie.Need-loop-again Inv-loop μ-loop
 loop-again c =
@@ -60,12 +42,12 @@ first-closed-spec =
     (tie.spec
     Inv-loop
     μ-loop
-    loop-holds
-    mul-slot
-    array-copy-out-slot
-    state-closed-requires
-    add-i
-    loop-less
+    (λ c. omega arith)
+    (λ c. omega arith)
+    (λ c. omega arith)
+    (λ c κs. search needs)
+    (λ c. omega arith)
+    (λ c. omega arith)
     loop-again
     returns
     returns-2)

@@ -1,4 +1,4 @@
--- Two channels are compared by spacecraft id, then by number. Assumes nothing.
+-- Two channels are compared by spacecraft id, then by number.
 use Rattle.uslp_record.proofs.Seek.{same-not, same-craft}
 use Rattle.uslp_record.proofs.same_channel.Statement.{statement}
 use Rattle.uslp_record.proofs.same_channel.Tie as tie

@@ -1,5 +1,4 @@
 -- `uslp_text::decimal_len` meets its contract. The loop's invariant: the digits counted and those of the rest are the digits of the number.
--- Assumes nothing.
 use mathlib.Core.Path.{_≡_, refl, ap, _∙_}
 use Prim.Native.Nat.{ℕ, suc, _+_, _-_, _/_, _≤_, _<_, _^_}
 use native.Mathlib.Omega.{arith}
@@ -33,12 +32,6 @@ module _ (value rest n : ℕ) (big : 10 ≤ rest) (low : rest < 10 ^ (21 - n)) w
 loop-holds : tie.Need-loop-holds Inv-loop μ-loop
 loop-holds c = (omega arith, omega arith, omega arith)
 
-add-n : tie.Need-add-n Inv-loop μ-loop
-add-n c = omega arith
-
-loop-less : tie.Need-loop-less Inv-loop μ-loop
-loop-less c = omega arith
-
 loop-again : tie.Need-loop-again Inv-loop μ-loop
 loop-again c =
     let l = c .before .loop in
@@ -55,4 +48,4 @@ returns c =
     omega (arith, l .inv .2)
 
 pub decimal-len-spec : {M : Type 1} → statement M
-decimal-len-spec = tie.close (tie.spec Inv-loop μ-loop loop-holds add-n loop-less loop-again returns)
+decimal-len-spec = tie.close (tie.spec Inv-loop μ-loop loop-holds (λ c. omega arith) (λ c. omega arith) loop-again returns)

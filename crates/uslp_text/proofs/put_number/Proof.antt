@@ -1,5 +1,4 @@
 -- `uslp_text::put_number` meets its contract: twenty octets hold the numeral, which is put as a text.
--- Assumes nothing.
 use mathlib.Core.Path.{_≡_, subst, ap, sym, _∙_}
 use Prim.Native.Nat.{ℕ, _-_, _^_, _<_, _≤_}
 use mathlib.Core.List.{List}
@@ -20,15 +19,6 @@ short n h = omega (arith, decimal-short 19 n (omega arith), length-digits (width
 abbrev blank : List ℕ
 blank = replicate 20 0
 
-decimal-len-requires : tie.Need-decimal-len-requires
-decimal-len-requires c κs = search needs
-
-sub-put-decimal : tie.Need-sub-put-decimal
-sub-put-decimal c = search needs
-
-part-numeral-start : tie.Need-part-numeral-start
-part-numeral-start c = search needs
-
 part-numeral-end : tie.Need-part-numeral-end
 part-numeral-end c = omega (arith, c .decimal-len .ensures, short (c .before .before .args .value) (omega (arith, c .before .before .fits .value)))
 
@@ -41,27 +31,12 @@ numeral d =
     let long : length (take (w .result - 0) blank) ≡ width v = omega (arith, w .ensures, length-take-le (w .result - 0) blank (omega (arith, w .ensures))) in
     d .put-decimal .ensures ∙ ap (λ (k : ℕ). digits k v) long
 
-put-decimal-requires : tie.Need-put-decimal-requires
-put-decimal-requires c κs = search needs
-
-sub-put-text : tie.Need-sub-put-text
-sub-put-text c = search needs
-
-part-put-text-start : tie.Need-part-put-text-start
-part-put-text-start c = search needs
-
 part-put-text-end : tie.Need-part-put-text-end
 part-put-text-end c =
     let d = c .before .before in
     let v = d .before .before .before .before .args .value in
     let n = d .before .before .decimal-len in
     omega (arith, length-append (d .put-decimal .last .1 .0) (drop (n .result - 0) blank), ap length (numeral d), length-digits (width v) v, n .ensures)
-
-put-text-requires : tie.Need-put-text-requires
-put-text-requires c κs = search needs
-
-same-length : tie.Need-same-length
-same-length c = search needs
 
 returns : tie.Need-returns
 returns c =
@@ -76,14 +51,14 @@ pub put-number-spec : {M : Type 1} → statement M
 put-number-spec =
     tie.close
     (tie.spec
-    decimal-len-requires
-    sub-put-decimal
-    part-numeral-start
+    (λ c κs. search needs)
+    (λ c. search needs)
+    (λ c. search needs)
     part-numeral-end
-    put-decimal-requires
-    sub-put-text
-    part-put-text-start
+    (λ c κs. search needs)
+    (λ c. search needs)
+    (λ c. search needs)
     part-put-text-end
-    put-text-requires
-    same-length
+    (λ c κs. search needs)
+    (λ c. search needs)
     returns)

@@ -1,13 +1,9 @@
 -- `TransferFrameDataFieldHeader::checked` meets its contract: the test is `pointerBad`.
--- Assumes nothing.
 use mathlib.Core.Path.{sym, _∙_}
 use Rattle.uslp_data_field_header.proofs.Checks.{checking-bad, checking-good}
 use borrow.Author.Needs.{needs}
 use Rattle.uslp_data_field_header.proofs.TransferFrameDataFieldHeader.checked.Statement.{statement}
 use Rattle.uslp_data_field_header.proofs.TransferFrameDataFieldHeader.checked.Tie as tie
-
-pointer-bad-requires : tie.Need-pointer-bad-requires
-pointer-bad-requires c κs = search needs
 
 returns : tie.Need-returns
 returns c = sym (checking-bad _ (sym (c .before .pointer-bad .ensures) ∙ c .if1 .taken))
@@ -16,4 +12,4 @@ returns-2 : tie.Need-returns-2
 returns-2 c = sym (checking-good _ (sym (c .before .pointer-bad .ensures) ∙ c .if1 .left))
 
 pub checked-spec : {M : Type 1} → statement M
-checked-spec = tie.close (tie.spec pointer-bad-requires returns returns-2)
+checked-spec = tie.close (tie.spec (λ c κs. search needs) returns returns-2)

@@ -1,5 +1,4 @@
 -- `TransferFrameDataFieldHeader::write_to_slice` meets its contract: the header that was checked is the one that came in.
--- Assumes nothing.
 use mathlib.Core.Path.{sym, _∙_, ap}
 use Rattle.uslp_data_field_header.specs.Field.{paperField, fieldWriting}
 use Rattle.uslp_data_field_header.specs.declared.TransferFrameDataFieldHeader.{TransferFrameDataFieldHeader}
@@ -9,23 +8,11 @@ use borrow.Author.Needs.{needs}
 use Rattle.uslp_data_field_header.proofs.TransferFrameDataFieldHeader.write_to_slice.Statement.{statement}
 use Rattle.uslp_data_field_header.proofs.TransferFrameDataFieldHeader.write_to_slice.Tie as tie
 
-checked-requires : tie.Need-checked-requires
-checked-requires c κs = search needs
-
-enum-known-header : tie.Need-enum-known-header
-enum-known-header c = search needs
-
 put-header-requires : tie.Need-put-header-requires
 put-header-requires c κs =
     let h = c .before .before in
     let d = h .before .before in
     checking-again (d .before .before .args .self) (sym (d .checked .ensures) ∙ ap paperField (h .header .given .1))
-
-enum-known-refusal : tie.Need-enum-known-refusal
-enum-known-refusal c = search needs
-
-same-length : tie.Need-same-length
-same-length c = search needs
 
 returns : tie.Need-returns
 returns c =
@@ -44,10 +31,10 @@ pub write-to-slice-spec : {M : Type 1} → statement M
 write-to-slice-spec =
     tie.close
     (tie.spec
-    checked-requires
-    enum-known-header
+    (λ c κs. search needs)
+    (λ c. search needs)
     put-header-requires
-    enum-known-refusal
-    same-length
+    (λ c. search needs)
+    (λ c. search needs)
     returns
     returns-2)

@@ -1,5 +1,4 @@
 -- `checked` meets its contract: at each `return` the tests that led there say which law of `headerChecking` holds.
--- Assumes nothing.
 use mathlib.Core.Path.{_∙_, sym}
 use borrow.Author.Tests.{leb-true, leb-false}
 use Rattle.uslp_primary_header.proofs.Checks.{checks-channel, checks-map, checks-width, checks-count, checks-done}

@@ -1,5 +1,4 @@
 -- `equals` meets its contract: each kind is compared by its number.
--- Assumes nothing.
 use mathlib.Core.Path.{_≡_}
 use mathlib.Core.Bool.{_&&_}
 use Prim.Native.Nat.{ℕ}

@@ -1,5 +1,4 @@
 -- `new` meets its contract: the two bounds, and then the header itself.
--- Assumes nothing.
 use mathlib.Core.Path.{sym}
 use Rattle.uslp_primary_header.proofs.Making.{making-channel, making-map, making-done}
 use borrow.Author.Needs.{needs}

@@ -1,5 +1,4 @@
 -- `with_frame_len` meets its contract: only the length differs.
--- Assumes nothing.
 use mathlib.Core.Path.{_∙_, refl, ap, sym}
 use Rattle.uslp_kinds.specs.Outcome.{done}
 use Rattle.uslp_primary_header.proofs.Rows.{header-eq}

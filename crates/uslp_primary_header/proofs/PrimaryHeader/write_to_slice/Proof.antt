@@ -1,5 +1,4 @@
 -- `write_to_slice` meets its contract: what was checked decides.
--- Assumes nothing.
 use mathlib.Core.Path.{_≡_, ap, sym, _∙_}
 use Rattle.uslp_kinds.specs.Outcome.{done}
 use Rattle.uslp_primary_header.specs.Header.{paperHeader, headerChecking}

@@ -1,5 +1,4 @@
 -- `header_of` meets its contract: each value is the row's, by the same arithmetic.
--- Assumes nothing.
 use mathlib.Core.Path.{refl}
 use native.Mathlib.Omega.{arith}
 use Rattle.uslp_primary_header.proofs.Rows.{header-eq}

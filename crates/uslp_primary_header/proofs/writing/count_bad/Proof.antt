@@ -1,5 +1,4 @@
 -- `count_bad` meets its contract: the shift is a division by the power of 256, and a u64 is below the eighth power.
--- Assumes nothing.
 use mathlib.Core.Path.{_≡_, _∙_, ap, sym}
 use Prim.Native.Nat.{ℕ, _/_, _*_, _^_, _<_}
 use mathlib.Core.Bool.{not}

@@ -1,5 +1,4 @@
 -- `put_header` meets its contract: the seven octets of the fixed rows, and then the count's over those that follow.
--- Assumes nothing.
 use mathlib.Core.Path.{sym}
 use native.Mathlib.Omega.{arith}
 use Rattle.uslp_primary_header.proofs.WritePaths.{writing-short, fixed-put, writing-put}

@@ -1,23 +1,14 @@
--- Each way through asking is a law of `Calls`. Assumes nothing.
+-- Each way through asking is a law of `Calls`.
 use native.Mathlib.Omega.{arith}
 use Rattle.uslp_record.proofs.Calls.{showing-none, showing-done}
 use borrow.Author.Needs.{needs}
 use Rattle.uslp_record.proofs.ChannelRecord.channel_state.Statement.{statement}
 use Rattle.uslp_record.proofs.ChannelRecord.channel_state.Tie as tie
 
-search-requires : tie.Need-search-requires
-search-requires c κs = search needs
-
 returns : tie.Need-returns
 returns c =
     let a = c .before .before .args in
     showing-none (a .self) (a .channel) _ (c .before .search .ensures) (omega arith)
-
-mul-slot : tie.Need-mul-slot
-mul-slot c = search needs
-
-array-copy-out-slot : tie.Need-array-copy-out-slot
-array-copy-out-slot c = search needs
 
 returns-2 : tie.Need-returns-2
 returns-2 c =
@@ -26,4 +17,4 @@ returns-2 c =
 
 pub channel-state-spec : {M : Type 1} → statement M
 channel-state-spec =
-    tie.close (tie.spec search-requires returns mul-slot array-copy-out-slot returns-2)
+    tie.close (tie.spec (λ c κs. search needs) returns (λ c. search needs) (λ c. search needs) returns-2)

@@ -7,20 +7,11 @@ use borrow.Author.Needs.{needs}
 use Rattle.uslp_record.proofs.ChannelRecord.close_channel.Statement.{statement}
 use Rattle.uslp_record.proofs.ChannelRecord.close_channel.Tie as tie
 
-search-requires : tie.Need-search-requires
-search-requires c κs = search needs
-
-refused-requires : tie.Need-refused-requires
-refused-requires c κs = search needs
-
 returns : tie.Need-returns
 returns c =
     let a = c .before .before .before .args in
     let e = c .refused .ensures in
     joined (ap paperDone (e .0)) (e .1) ∙ closing-none (a .self) (a .channel) _ (c .before .before .search .ensures) (omega arith)
-
-with-change-requires : tie.Need-with-change-requires
-with-change-requires c κs = search needs
 
 returns-2 : tie.Need-returns-2
 returns-2 c =
@@ -29,4 +20,4 @@ returns-2 c =
 
 pub close-channel-spec : {M : Type 1} → statement M
 close-channel-spec =
-    tie.close (tie.spec search-requires refused-requires returns with-change-requires returns-2)
+    tie.close (tie.spec (λ c κs. search needs) (λ c κs. search needs) returns (λ c κs. search needs) returns-2)

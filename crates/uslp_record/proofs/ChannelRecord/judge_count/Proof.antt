@@ -11,31 +11,16 @@ returns c =
     let a = c .before .args in
     sym (judging-wide (a .self) (a .channel) (a .width) (a .count) (omega arith))
 
-search-requires : tie.Need-search-requires
-search-requires c κs = search needs
-
 returns-2 : tie.Need-returns-2
 returns-2 c =
     let a = c .before .before .before .args in
     sym (judging-none (a .self) (a .channel) (a .width) (a .count) (omega arith) _ (c .before .search .ensures) (omega arith))
-
-mul-slot : tie.Need-mul-slot
-mul-slot c = search needs
-
-array-copy-out-slot : tie.Need-array-copy-out-slot
-array-copy-out-slot c = search needs
-
-width-of-requires : tie.Need-width-of-requires
-width-of-requires c κs = search needs
 
 returns-3 : tie.Need-returns-3
 returns-3 c =
     let b = c .before .before .before .before .before in
     let a = b .before .before .args in
     sym (judging-width (a .self) (a .channel) (a .width) (a .count) (omega arith) _ (b .search .ensures) (omega arith) _ (c .before .width-of .ensures) (c .if3 .taken))
-
-step-of-requires : tie.Need-step-of-requires
-step-of-requires c κs = search needs
 
 returns-4 : tie.Need-returns-4
 returns-4 c =
@@ -57,12 +42,12 @@ judge-count-spec =
     tie.close
     (tie.spec
     returns
-    search-requires
+    (λ c κs. search needs)
     returns-2
-    mul-slot
-    array-copy-out-slot
-    width-of-requires
+    (λ c. search needs)
+    (λ c. search needs)
+    (λ c κs. search needs)
     returns-3
-    step-of-requires
+    (λ c κs. search needs)
     returns-4
     returns-5)

@@ -7,17 +7,11 @@ use borrow.Author.Needs.{needs}
 use Rattle.uslp_record.proofs.ChannelRecord.open_channel.Statement.{statement}
 use Rattle.uslp_record.proofs.ChannelRecord.open_channel.Tie as tie
 
-refused-requires : tie.Need-refused-requires
-refused-requires c κs = search needs
-
 returns : tie.Need-returns
 returns c =
     let a = c .before .before .before .args in
     let e = c .refused .ensures in
     joined (ap paperDone (e .0)) (e .1) ∙ opening-channel (a .self) (a .channel) (a .width) (omega arith)
-
-refused-requires-2 : tie.Need-refused-requires-2
-refused-requires-2 c κs = search needs
 
 returns-2 : tie.Need-returns-2
 returns-2 c =
@@ -25,20 +19,11 @@ returns-2 c =
     let e = c .refused2 .ensures in
     joined (ap paperDone (e .0)) (e .1) ∙ opening-width-zero (a .self) (a .channel) (a .width) (omega arith) (c .before .if2 .taken)
 
-refused-requires-3 : tie.Need-refused-requires-3
-refused-requires-3 c κs = search needs
-
 returns-3 : tie.Need-returns-3
 returns-3 c =
     let a = c .before .before .before .before .before .args in
     let e = c .refused3 .ensures in
     joined (ap paperDone (e .0)) (e .1) ∙ opening-width-long (a .self) (a .channel) (a .width) (omega arith) (c .before .before .if2 .left) (omega arith)
-
-search-requires : tie.Need-search-requires
-search-requires c κs = search needs
-
-refused-requires-4 : tie.Need-refused-requires-4
-refused-requires-4 c κs = search needs
 
 returns-4 : tie.Need-returns-4
 returns-4 c =
@@ -46,20 +31,11 @@ returns-4 c =
     let e = c .refused4 .ensures in
     joined (ap paperDone (e .0)) (e .1) ∙ opening-twice (a .self) (a .channel) (a .width) (omega arith) (c .before .before .before .before .if2 .left) (omega arith) _ (c .before .before .search .ensures) (omega arith)
 
-first-closed-requires : tie.Need-first-closed-requires
-first-closed-requires c κs = search needs
-
-refused-requires-5 : tie.Need-refused-requires-5
-refused-requires-5 c κs = search needs
-
 returns-5 : tie.Need-returns-5
 returns-5 c =
     let a = c .before .before .before .before .before .before .before .before .before .args in
     let e = c .refused5 .ensures in
     joined (ap paperDone (e .0)) (e .1) ∙ opening-full (a .self) (a .channel) (a .width) (omega arith) (c .before .before .before .before .before .before .if2 .left) (omega arith) _ (c .before .before .before .before .search .ensures) (omega arith) _ (c .before .before .first-closed .ensures) (omega arith)
-
-with-change-requires : tie.Need-with-change-requires
-with-change-requires c κs = search needs
 
 returns-6 : tie.Need-returns-6
 returns-6 c =
@@ -70,17 +46,17 @@ pub open-channel-spec : {M : Type 1} → statement M
 open-channel-spec =
     tie.close
     (tie.spec
-    refused-requires
+    (λ c κs. search needs)
     returns
-    refused-requires-2
+    (λ c κs. search needs)
     returns-2
-    refused-requires-3
+    (λ c κs. search needs)
     returns-3
-    search-requires
-    refused-requires-4
+    (λ c κs. search needs)
+    (λ c κs. search needs)
     returns-4
-    first-closed-requires
-    refused-requires-5
+    (λ c κs. search needs)
+    (λ c κs. search needs)
     returns-5
-    with-change-requires
+    (λ c κs. search needs)
     returns-6)

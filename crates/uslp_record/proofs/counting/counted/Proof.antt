@@ -1,4 +1,4 @@
--- The totals before are not too high, and the gap is short: no sum wraps. Assumes nothing.
+-- The totals before are not too high, and the gap is short: no sum wraps.
 use mathlib.Core.Path.{sym, ap}
 use native.Mathlib.Omega.{arith}
 use Rattle.uslp_record.specs.Judging.{totalsAfter}
@@ -8,23 +8,14 @@ use borrow.Author.Needs.{needs}
 use Rattle.uslp_record.proofs.counting.counted.Statement.{statement}
 use Rattle.uslp_record.proofs.counting.counted.Tie as tie
 
-enum-known-arrival : tie.Need-enum-known-arrival
-enum-known-arrival c = search needs
-
 add-next : tie.Need-add-next
 add-next c = omega (arith, full-not (c .before .before .before .before .args .totals) (c .before .before .before .before .pre .0))
 
 add-next-2 : tie.Need-add-next-2
 add-next-2 c = let s = c .before .before .before .before .before in omega (arith, gap-fits (s .args .arrival) (s .args .count) _ (s .args .totals) (c .before .before .before .arrival .given .1) (s .pre .0) (s .pre .1))
 
-enum-told : tie.Need-enum-told
-enum-told c = search needs
-
 add-next-3 : tie.Need-add-next-3
 add-next-3 c = omega (arith, full-not (c .before .before .before .args .totals) (c .before .before .before .pre .0))
-
-enum-told-2 : tie.Need-enum-told-2
-enum-told-2 c = search needs
 
 add-next-4 : tie.Need-add-next-4
 add-next-4 c = omega (arith, full-not (c .before .before .before .args .totals) (c .before .before .before .pre .0))
@@ -42,12 +33,12 @@ pub counted-spec : {M : Type 1} → statement M
 counted-spec =
     tie.close
     (tie.spec
-    enum-known-arrival
+    (λ c. search needs)
     add-next
     add-next-2
-    enum-told
+    (λ c. search needs)
     add-next-3
-    enum-told-2
+    (λ c. search needs)
     add-next-4
     returns
     returns-2

@@ -1,4 +1,4 @@
--- A total above the largest makes the whole too high. Assumes nothing.
+-- A total above the largest makes the whole too high.
 use native.Mathlib.Omega.{arith}
 use Rattle.uslp_record.proofs.Count.{full-handed-on, full-missing, full-repeats, full-late}
 use Rattle.uslp_record.proofs.counting.full.Statement.{statement}

@@ -1,4 +1,4 @@
--- A first frame is NEW with no gap; a later one is counted. Assumes nothing.
+-- A first frame is NEW with no gap; a later one is counted.
 use mathlib.Core.Path.{ap}
 use native.Mathlib.Omega.{arith}
 use Rattle.uslp_record.specs.declared.SlotState.{SlotState}
@@ -8,21 +8,6 @@ use Rattle.uslp_record.proofs.Hears.{steps-first, steps-later}
 use borrow.Author.Needs.{needs}
 use Rattle.uslp_record.proofs.counting.step_of.Statement.{statement}
 use Rattle.uslp_record.proofs.counting.step_of.Tie as tie
-
-enum-told : tie.Need-enum-told
-enum-told c = search needs
-
-first-requires : tie.Need-first-requires
-first-requires c κs = search needs
-
-enum-told-2 : tie.Need-enum-told-2
-enum-told-2 c = search needs
-
-first-requires-2 : tie.Need-first-requires-2
-first-requires-2 c κs = search needs
-
-enum-known-state : tie.Need-enum-known-state
-enum-known-state c = search needs
 
 difference-requires : tie.Need-difference-requires
 difference-requires c κs = omega (arith, ap widthAt (c .before .state .given .1), c .before .before .before .pre)
@@ -58,11 +43,11 @@ pub step-of-spec : {M : Type 1} → statement M
 step-of-spec =
     tie.close
     (tie.spec
-    enum-told
-    first-requires
-    enum-told-2
-    first-requires-2
-    enum-known-state
+    (λ c. search needs)
+    (λ c κs. search needs)
+    (λ c. search needs)
+    (λ c κs. search needs)
+    (λ c. search needs)
     difference-requires
     arrival-of-requires
     later-requires
