@@ -25,7 +25,7 @@ use Rattle.uslp_hearing.specs.Hearing.{channelOf, frameArrival, withFrame, judg
 use Rattle.uslp_hearing.specs.declared.FrameArrival.the-variants as frame-arrival
 use Rattle.uslp_roundtrip.specs.Laid.{frameOf}
 use Rattle.uslp_roundtrip.proofs.Complete.{complete, complete-contents}
-use Rattle.uslp_counting.specs.History.{answerOf, handing, Roomy, Sender, frameAt, handingAt, Call}
+use Rattle.uslp_counting.specs.History.{answerOf, handing, Roomy, Sender, frameAt, handingAt}
 use Rattle.uslp_counting.specs.History.Call.{hears}
 use Rattle.uslp_counting.proofs.Ahead.{half-twice, ahead-on, ahead-back}
 use Rattle.uslp_counting.proofs.Stands.{Stands}

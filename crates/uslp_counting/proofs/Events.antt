@@ -1,26 +1,24 @@
 -- What each kind of event makes of the record and of the count: one clause a kind.
 use mathlib.Core.Path.{_≡_, refl, sym, _∙_, ap, subst}
-use mathlib.Core.Bool.{Bool, true, false, cond}
+use mathlib.Core.Bool.{Bool, false}
 use mathlib.Core.List.{List, [], _∷_, _++_}
 use Prim.Native.Nat.{ℕ, _^_, _/_, _≤_}
-use Rattle.uslp_kinds.specs.Outcome.{done}
-use Rattle.uslp_record.specs.Judging.{overfull, arrivalAt, totalsAt}
-use Rattle.uslp_record.specs.Record.{keeping, Kept}
-use Rattle.uslp_record.specs.Slots.{find, put}
+use Rattle.uslp_record.specs.Judging.{overfull, totalsAt}
+use Rattle.uslp_record.specs.Record.{Kept}
 use Rattle.uslp_record.specs.declared.Channel.{Channel}
 use Rattle.uslp_record.specs.declared.SlotState.{SlotState}
 use Rattle.uslp_record.specs.declared.SlotState.the-variants.{Heard}
 use Rattle.uslp_record.specs.declared.ChannelRecord.{ChannelRecord}
 use Rattle.uslp_record.proofs.Slots.{same-self}
-use Rattle.uslp_hearing.specs.Hearing.{frameHearing, frameArrival}
+use Rattle.uslp_hearing.specs.Hearing.{frameHearing}
 use Rattle.uslp_hearing.specs.declared.FrameArrival.{FrameArrival}
-use Rattle.uslp_counting.specs.Places.{aheadOf, leaders, Close, Window}
+use Rattle.uslp_counting.specs.Places.{leaders, Close, Window}
 use Rattle.uslp_counting.specs.History.{Handing, recordOf, answerOf, handing, called, Roomy, Sender, frameAt, Event, callOf, placesOf, places}
 use Rattle.uslp_counting.specs.History.Event.{arrives, damaged, elsewhere, misfits, opened, closed, again}
 use Rattle.uslp_counting.proofs.Stands.{Stands, stands-own, stands-opening, stands-closing, stands-again}
-use Rattle.uslp_counting.proofs.Others.{Passes, passes-damaged, passes-elsewhere, passes-misfit}
-use Rattle.uslp_counting.proofs.Arrival.{countAt, sentAt, arrival-done, room-in}
-use Rattle.uslp_counting.proofs.Step.{Counting, counting-width, handingsAfter, Advanced, advance}
+use Rattle.uslp_counting.proofs.Others.{passes-damaged, passes-elsewhere, passes-misfit}
+use Rattle.uslp_counting.proofs.Arrival.{countAt, arrival-done, room-in}
+use Rattle.uslp_counting.proofs.Step.{Counting, counting-width, handingsAfter, advance}
 
 -- the places seen after an event, and what the window asks of it
 module _ {K : Channel} {width : ℕ} where

@@ -1,8 +1,8 @@
 -- Histories of the oven in width 1: the places 0 and q arrive, of 256 counts. What is asked of a history can be met, and the window is tight.
-use mathlib.Core.Path.{_≡_, refl, sym, ap, _∙_}
+use mathlib.Core.Path.{_≡_, refl, ap, _∙_}
 use mathlib.Core.Bool.{false}
-use mathlib.Core.List.{List, [], _∷_, _++_, map}
-use Prim.Native.Nat.{ℕ, suc, _-_, _<_, _≤_}
+use mathlib.Core.List.{List, [], _∷_, map}
+use Prim.Native.Nat.{ℕ, _-_, _<_, _≤_}
 use native.Mathlib.Omega.{arith}
 use borrow.Author.Tests.{lt-ltb}
 use lib.ListN.{length}
@@ -16,8 +16,8 @@ use Rattle.uslp_record.specs.Judging.{judging}
 use Rattle.uslp_record.specs.declared.SlotState.the-variants.{Opened}
 use Rattle.uslp_record.specs.declared.ChannelRecord.{ChannelRecord}
 use Rattle.uslp_hearing.specs.Hearing.{frameHearing}
-use Rattle.uslp_counting.specs.Places.{furthest, aheadOf, leaders, Close, Window, among, absent, lost}
-use Rattle.uslp_counting.specs.History.{Handing, run, handed, missingFor, Sender, Event, Call, callOf, handingAt, following, handings, places}
+use Rattle.uslp_counting.specs.Places.{furthest, aheadOf, leaders, Close, Window, lost}
+use Rattle.uslp_counting.specs.History.{run, handed, missingFor, Sender, Event, Call, callOf, handingAt, following, handings, places}
 use Rattle.uslp_counting.specs.History.Event.{arrives}
 use Rattle.uslp_counting.proofs.Lost.{lost-more, lost-one}
 use Rattle.uslp_counting.proofs.Theorem.{counted}

@@ -22,7 +22,7 @@ use Rattle.uslp_reader.specs.Reader.{frameReading, contentsIn}
 use Rattle.uslp_reader.specs.declared.TransferFrame.{TransferFrame}
 use Rattle.uslp_hearing.specs.Hearing.{channelOf, withFrame, judgedFrame, frameHearing}
 use Rattle.uslp_hearing.specs.declared.FrameArrival.{FrameArrival}
-use Rattle.uslp_counting.specs.History.{recordOf, answerOf, handing, Roomy, Call}
+use Rattle.uslp_counting.specs.History.{recordOf, answerOf, handing, Roomy}
 use Rattle.uslp_counting.specs.History.Call.{hears}
 use Rattle.uslp_counting.proofs.Stands.{Stands, stands-judging}
 

@@ -1,8 +1,8 @@
 -- No total is full where fewer than 2^60 frames arrive and fewer than 2^60 are lost: said of the places alone.
-use mathlib.Core.Path.{_≡_, refl, sym, _∙_, ap, subst}
-use mathlib.Core.Bool.{Bool, true, false, cond}
+use mathlib.Core.Path.{_≡_, sym, _∙_, ap, subst}
+use mathlib.Core.Bool.{Bool, cond}
 use mathlib.Core.List.{List, [], _∷_, _++_, map, append-nil, append-assoc}
-use Prim.Native.Nat.{ℕ, suc, _+_, _-_, _^_, _/_, _<_, _≤_}
+use Prim.Native.Nat.{ℕ, _+_, _-_, _^_, _/_, _<_, _≤_}
 use native.Mathlib.Omega.{arith}
 use native.Mathlib.Decide.{decLt}
 use lib.ListN.{length, length-append}
@@ -10,7 +10,7 @@ use Rattle.uslp_kinds.specs.Outcome.{done}
 use Rattle.uslp_record.specs.Record.{most, keeping, opening}
 use Rattle.uslp_record.specs.declared.Channel.{Channel}
 use Rattle.uslp_record.specs.declared.SlotState.{SlotState}
-use Rattle.uslp_record.specs.declared.SlotState.the-variants.{Opened, Heard}
+use Rattle.uslp_record.specs.declared.SlotState.the-variants.{Opened}
 use Rattle.uslp_record.specs.declared.ChannelRecord.{ChannelRecord}
 use Rattle.uslp_hearing.specs.Hearing.{frameHearing}
 use Rattle.uslp_counting.specs.Places.{furthest, aheadOf, leaders, Window, lost}

@@ -10,7 +10,7 @@ use Rattle.uslp_record.specs.Record.{Kept, keeping, opening, closing}
 use Rattle.uslp_record.specs.Judging.{judging, taken}
 use Rattle.uslp_record.specs.declared.Channel.{Channel}
 use Rattle.uslp_record.specs.declared.SlotState.{SlotState}
-use Rattle.uslp_record.specs.declared.SlotState.the-variants.{Closed, Opened, Heard}
+use Rattle.uslp_record.specs.declared.SlotState.the-variants.{Closed, Opened}
 use Rattle.uslp_record.specs.declared.ChannelRecord.{ChannelRecord}
 use Rattle.uslp_record.specs.declared.Arrival.{Arrival}
 use Rattle.uslp_record.specs.declared.Change.{Change}

@@ -1,6 +1,6 @@
 -- One step of the count: what an arrival makes of it when it is the first, ahead, a repeat, late. No record stands here.
 use mathlib.Core.Path.{_≡_, refl, sym, _∙_, ap, ap₂, subst}
-use mathlib.Core.Bool.{Bool, true, false, cond}
+use mathlib.Core.Bool.{Bool, false, cond}
 use mathlib.Core.List.{List, [], _∷_, _++_, append-assoc}
 use Prim.Native.Nat.{ℕ, suc, _+_, _-_, _^_, _/_, _<_, _≤_}
 use native.Mathlib.Omega.{arith}

@@ -5,7 +5,7 @@ use Prim.Native.Nat.{ℕ}
 use native.Mathlib.Omega.{arith}
 use Rattle.uslp_kinds.specs.Answers.{paperLength}
 use Rattle.uslp_kinds.proofs.Back.{back, one-to-one, length-back, leaving-one}
-use Rattle.uslp_kinds.specs.declared.ConstructionRule.the-variants.{PacketSpanningMultipleFrames, OctetStream, NoSegmentation}
+use Rattle.uslp_kinds.specs.declared.ConstructionRule.the-variants.{PacketSpanningMultipleFrames, NoSegmentation}
 use Rattle.uslp_kinds.specs.declared.UslpProtocolId.the-variants.{UserDefinedOctetStream, Idle}
 use Rattle.uslp_kinds.specs.declared.FhpOrLvo.the-variants.{Absent, Present}
 use Rattle.uslp_kinds.specs.declared.Refusal.the-variants.{ShortSource, ShortTarget, BadProtocol, BadPointer}

@@ -1,6 +1,5 @@
 -- The promises of `uslp_hearing` settle each call. `handed_on` hands back a part of the lent octets: what it shows is settled.
 use mathlib.Core.Path.{_≡_, refl, sym, ap, _∙_}
-use mathlib.Core.Bool.{false}
 use mathlib.Core.List.{List, [], _∷_}
 use Prim.Native.Nat.{ℕ}
 use native.Mathlib.Omega.{arith}
@@ -10,7 +9,7 @@ use Rattle.uslp_record.specs.declared.Channel.{Channel}
 use Rattle.uslp_record.specs.declared.Change.{Change}
 use Rattle.uslp_record.proofs.Back.{keeping-one}
 use Rattle.uslp_hearing.specs.Hearing.{paperHear, paperJudge}
-use Rattle.uslp_hearing.specs.declared.FrameArrival.the-variants.{New, Repeat, Late}
+use Rattle.uslp_hearing.specs.declared.FrameArrival.the-variants.{New, Repeat}
 use Rattle.uslp_hearing.specs.declared.FrameArrival.{FrameArrival}
 use Rattle.uslp_hearing.specs.declared.HearAnswer.the-variants.{Done, Refused}
 use Rattle.uslp_hearing.specs.declared.JudgeAnswer.the-variants as judge-answer

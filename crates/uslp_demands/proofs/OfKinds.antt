@@ -1,7 +1,6 @@
 -- The promises of `uslp_kinds` settle each call, and shut out two tempting wrong answers of each function.
 use mathlib.Core.Path.{_≡_, refl, sym, _∙_}
 use mathlib.Core.Bool.{true, false}
-use mathlib.Core.List.{[], _∷_}
 use Prim.Native.Nat.{ℕ}
 use native.Mathlib.Omega.{arith}
 use Rattle.uslp_kinds.specs.Answers.{paperProtocol}
@@ -9,8 +8,8 @@ use Rattle.uslp_kinds.proofs.Back.{back, one-to-one, protocol-back}
 use Rattle.uslp_kinds.specs.declared.SourceOrDestField.the-variants.{Source, Dest}
 use Rattle.uslp_kinds.specs.declared.BypassSequenceControlFlag.the-variants.{SequenceControlledQoS, ExpeditedQoS}
 use Rattle.uslp_kinds.specs.declared.ProtocolControlCommandFlag.the-variants.{TfdfContainsUserData, TfdfContainsProtocolInfo}
-use Rattle.uslp_kinds.specs.declared.ConstructionRule.the-variants.{PacketSpanningMultipleFrames, OctetStream, LastSegment, NoSegmentation}
-use Rattle.uslp_kinds.specs.declared.UslpProtocolId.the-variants.{UserDefinedOctetStream, Proximity1PseudoPacketIdentifier2, Idle}
+use Rattle.uslp_kinds.specs.declared.ConstructionRule.the-variants.{PacketSpanningMultipleFrames, OctetStream, NoSegmentation}
+use Rattle.uslp_kinds.specs.declared.UslpProtocolId.the-variants.{UserDefinedOctetStream, Idle}
 use Rattle.uslp_kinds.specs.declared.Refusal.the-variants.{BadProtocol}
 use Rattle.uslp_kinds.specs.declared.ProtocolIdAnswer.the-variants.{Done, Refused}
 use Rattle.uslp_kinds.proofs as kinds

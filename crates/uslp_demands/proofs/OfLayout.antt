@@ -1,8 +1,6 @@
 -- The promises of `uslp_layout` settle each call, and shut out two tempting wrong answers of each function.
-use mathlib.Core.Path.{_≡_, refl, sym, _∙_}
+use mathlib.Core.Path.{refl, sym, _∙_}
 use mathlib.Core.Bool.{true, false}
-use mathlib.Core.List.{[], _∷_}
-use Prim.Native.Nat.{ℕ}
 use native.Mathlib.Omega.{arith}
 use Rattle.uslp_layout.proofs as layout
 use Rattle.uslp_demands.specs.Promise.{Function, Allows, Settles}

@@ -1,6 +1,6 @@
 -- The promise of `uslp_listing` settles its call, and shuts out two tempting wrong answers; and what it says of frame F.
 use mathlib.Core.Path.{_≡_, refl, sym, _∙_}
-use mathlib.Core.List.{List, [], _∷_}
+use mathlib.Core.List.{[], _∷_}
 use Prim.Native.Nat.{ℕ}
 use native.Mathlib.Omega.{arith}
 use Rattle.uslp_kinds.specs.Answers.{paperLength}

@@ -1,7 +1,7 @@
 -- The promises of `uslp_reader` settle each call, and shut out two tempting wrong answers of each function. `data` and `data_of` hand
 -- back a part of the lent octets: what it shows is settled.
 use mathlib.Core.Path.{_≡_, refl, sym, ap, _∙_}
-use mathlib.Core.Bool.{true, false}
+use mathlib.Core.Bool.{false}
 use mathlib.Core.List.{List, [], _∷_}
 use Prim.Native.Nat.{ℕ}
 use native.Mathlib.Omega.{arith}
@@ -10,7 +10,7 @@ use Rattle.uslp_kinds.proofs.Back.{back, one-to-one}
 use Rattle.uslp_kinds.specs.declared.SourceOrDestField.the-variants.{Source, Dest}
 use Rattle.uslp_kinds.specs.declared.ConstructionRule.the-variants.{PacketSpanningMultipleFrames, NoSegmentation}
 use Rattle.uslp_kinds.specs.declared.OperationalControlField.the-variants.{Absent, Present}
-use Rattle.uslp_kinds.specs.declared.Refusal.the-variants.{ShortSource, Truncated, BadProtocol, FrameTooShort, BadChecksum}
+use Rattle.uslp_kinds.specs.declared.Refusal.the-variants.{ShortSource, Truncated}
 use Rattle.uslp_primary_header.specs.Header.{headerReading}
 use Rattle.uslp_primary_header.specs.declared.PrimaryHeader.{PrimaryHeader}
 use Rattle.uslp_data_field_header.specs.Field.{fieldReading}

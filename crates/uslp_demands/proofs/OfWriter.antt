@@ -11,7 +11,6 @@ use Rattle.uslp_kinds.proofs.Back.{back, one-to-one, length-back, leaving-one}
 use Rattle.uslp_kinds.proofs.Outcomes.{done-one}
 use Rattle.uslp_kinds.specs.declared.Refusal.the-variants.{ShortTarget}
 use Rattle.uslp_kinds.specs.declared.LengthAnswer.the-variants as length-answer
-use Rattle.uslp_primary_header.specs.Header.{headerChecking}
 use Rattle.uslp_checksum.specs.Checksum.{bit, step, feed, lows, bits, checksumOf}
 use Rattle.uslp_writer.specs.Frame.{frameLength, frameWriting}
 use Rattle.uslp_writer.specs.Reserved.{paperReserved, reserving, finishLength}
@@ -20,7 +19,7 @@ use Rattle.uslp_writer.specs.declared.ReservedAnswer.the-variants as reserved-a
 use Rattle.uslp_writer.proofs.Paths.{reserved-back}
 use Rattle.uslp_writer.proofs as frame
 use Rattle.uslp_demands.specs.Promise.{Function, at, Allows, Settles, Shows}
-use Rattle.uslp_roundtrip.specs.Samples.{frameF, plain, unflagged, zeros}
+use Rattle.uslp_roundtrip.specs.Samples.{plain, unflagged, zeros}
 use Rattle.uslp_demands.proofs.Alike.{alike}
 
 -- the functions, each with its promise

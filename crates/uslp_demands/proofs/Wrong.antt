@@ -1,12 +1,11 @@
 -- Any program that keeps the promise of the reader, of the writer or of the hearing has demand 2 or 3, so the programs that those demands shut
 -- out (`uslp_roundtrip/proofs/Wrong.antt`, `uslp_counting/proofs/Wrong.antt`) keep none of them. And none reports a too-long total wrapped.
-use mathlib.Core.Path.{_≡_, refl, sym, ap, _∙_, subst}
-use mathlib.Core.Bool.{Bool}
-use mathlib.Core.List.{List, [], _∷_}
+use mathlib.Core.Path.{_≡_, refl, sym, _∙_, subst}
+use mathlib.Core.List.{List, []}
 use Prim.Native.Nat.{ℕ}
 use native.Mathlib.Omega.{arith}
 use lib.ListN.{length}
-use Rattle.uslp_kinds.specs.Outcome.{Outcome, done, Written, leaving}
+use Rattle.uslp_kinds.specs.Outcome.{done, leaving}
 use Rattle.uslp_kinds.specs.Answers.{paperLength}
 use Rattle.uslp_kinds.proofs.Back.{leaving-one}
 use Rattle.uslp_kinds.proofs.Outcomes.{not-done}
@@ -18,10 +17,8 @@ use Rattle.uslp_writer.proofs.Paths.{writing-refused}
 use Rattle.uslp_writer.proofs as frame
 use Rattle.uslp_reader.specs.Reader.{paperFrame}
 use Rattle.uslp_reader.proofs as reader
-use Rattle.uslp_record.specs.Record.{Kept, keeping}
-use Rattle.uslp_record.specs.declared.ChannelRecord.{ChannelRecord}
+use Rattle.uslp_record.specs.Record.{keeping}
 use Rattle.uslp_hearing.specs.Hearing.{paperHear}
-use Rattle.uslp_hearing.specs.declared.FrameArrival.{FrameArrival}
 use Rattle.uslp_hearing.proofs as channel-proofs
 use Rattle.uslp_roundtrip.specs.Samples.{plain}
 use Rattle.uslp_roundtrip.specs.Demand as frames

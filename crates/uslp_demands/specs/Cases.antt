@@ -21,7 +21,7 @@ use Rattle.uslp_record.specs.declared.Channel.{Channel}
 use Rattle.uslp_record.specs.declared.ChannelRecord.{ChannelRecord}
 use Rattle.uslp_record.specs.declared.SlotState.the-variants.{Heard}
 use Rattle.uslp_record.specs.declared.Arrival.{Arrival}
-use Rattle.uslp_record.specs.declared.Arrival.the-variants.{New, Repeat, Late}
+use Rattle.uslp_record.specs.declared.Arrival.the-variants.{New, Late}
 use Rattle.uslp_roundtrip.specs.Samples.{headerF, some, whole, readF, frameF, octetsF, zeros}
 
 -- a call: reading octets, writing a frame over octets, setting a count, hearing a count after the last one of a width

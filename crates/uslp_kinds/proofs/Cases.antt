@@ -1,9 +1,9 @@
 -- The number of a case and the case of a number are inverse.
-use mathlib.Core.Path.{_≡_, refl, ap, sym, _∙_}
+use mathlib.Core.Path.{_≡_, refl}
 use Prim.Native.Nat.{ℕ, zero, suc, _<_}
 use native.Mathlib.Omega.{arith}
 use lib.Dec.{lit<}
-use Rattle.uslp_kinds.specs.Outcome.{Outcome, done, refused}
+use Rattle.uslp_kinds.specs.Outcome.{done}
 use Rattle.uslp_kinds.specs.Kinds.{sourceOrDestNumber, sourceOrDestOf, bypassNumber, bypassOf, commandNumber, commandOf, ruleNumber, ruleOf, protocolNumber, protocolOf}
 use Rattle.uslp_kinds.specs.declared.SourceOrDestField.{SourceOrDestField}
 use Rattle.uslp_kinds.specs.declared.SourceOrDestField.the-variants.{Source, Dest}

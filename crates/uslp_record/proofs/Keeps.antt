@@ -1,13 +1,12 @@
 -- Every call on the record keeps what holds of records that calls made.
 use mathlib.Core.Path.{_≡_, refl, sym, _∙_, ap, subst}
 use mathlib.Core.Bool.{Bool, true, false, _||_}
-use Prim.Native.Nat.{ℕ, _^_, _<_, _≤_}
+use Prim.Native.Nat.{ℕ, _^_, _<_}
 use native.Mathlib.Omega.{arith}
 use native.Mathlib.Decide.{ℕ-discrete, decLt}
 use borrow.Author.Tests.{ltb-false}
 use lib.Dec.{eqb, ltb}
-use lib.ListN.{length, length-set, getD-replicate, List·getD-eq-default, length-replicate}
-use Rattle.uslp_kinds.specs.Outcome.{Outcome}
+use lib.ListN.{length-set, getD-replicate, List·getD-eq-default, length-replicate}
 use Rattle.uslp_record.specs.Slots.{stateHolds, holds, find, vacant, slotOf, stateAt, put, emptyRecord}
 use Rattle.uslp_record.specs.Record.{Kept, keeping, opening, closing}
 use Rattle.uslp_record.specs.Judging.{ahead, arrivalOf, totalsAfter, firstTotals, overfull, totalsAt, widthAt}
@@ -23,7 +22,7 @@ use Rattle.uslp_record.specs.declared.Arrival.the-variants.{New, Repeat,
 use Rattle.uslp_record.proofs.Seek.{finds}
 use Rattle.uslp_record.proofs.Count.{full-not}
 use Rattle.uslp_record.proofs.Slots.{true-false, same-one, seek-passes, seek-none, put-same, put-other}
-use Rattle.uslp_record.proofs.Ways.{Opening, Judged, opening-ways, closing-ways}
+use Rattle.uslp_record.proofs.Ways.{Judged, opening-ways, closing-ways}
 
 -- the record that a call leaves
 abbrev pub left : {A : Type 0} → Kept A → ChannelRecord

@@ -1,7 +1,7 @@
 -- Hearing a frame of a channel, as numbers: NEW, REPEAT or LATE, and the totals that it leaves.
 use Prim.Native.Nat.{ℕ, _+_, _-_, _^_, _%_, _/_}
 use mathlib.Core.Bool.{Bool, cond, not, _||_}
-use mathlib.Core.List.{List, [], _∷_}
+use mathlib.Core.List.{[], _∷_}
 use lib.Dec.{eqb, leb, ltb}
 use Rattle.uslp_kinds.specs.Outcome.{Outcome, done, refused, firstOf}
 use Rattle.uslp_kinds.specs.Answers.{refusal}

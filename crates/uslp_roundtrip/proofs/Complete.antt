@@ -1,13 +1,13 @@
 -- Octets that begin with the layout of some fields, any spare bits, are read, and give those fields.
 use mathlib.Core.Path.{_≡_, refl, ap, sym, _∙_}
 use mathlib.Core.Bool.{Bool, true, false, cond}
-use mathlib.Core.List.{List, [], _∷_, _++_, append-assoc, append-nil}
-use Prim.Native.Nat.{ℕ, _+_, _-_, _^_, _<_, _≤_}
+use mathlib.Core.List.{List, _++_, append-assoc}
+use Prim.Native.Nat.{ℕ, _+_, _-_, _<_}
 use native.Mathlib.Omega.{arith}
 use lib.ListN.{length, take, drop, length-append}
 use lib.Seq.{take-at, drop-at, drop-drop}
 use Rattle.uslp_octets.specs.Octets.{octets, word, pack}
-use Rattle.uslp_octets.proofs.Laws.{length-octets, word-octets}
+use Rattle.uslp_octets.proofs.Laws.{word-octets}
 use Rattle.uslp_checksum.specs.Checksum.{checksumOf}
 use Rattle.uslp_checksum.proofs.Laws.{sealed}
 use Rattle.uslp_kinds.specs.Outcome.{done}
@@ -22,9 +22,8 @@ use Rattle.uslp_data_field_header.proofs.RoundTrip as field
 use Rattle.uslp_layout.specs.Layout.{dataStart, needed, present, ocfOctets, body, withFecf, layout, WellFormed}
 use Rattle.uslp_layout.proofs.Laws.{length-ocf, length-fecf}
 use Rattle.uslp_reader.specs.Reader.{ocfAt, frameWith, frameReading, contentsIn}
-use Rattle.uslp_reader.specs.declared.TransferFrame.{TransferFrame}
 use Rattle.uslp_roundtrip.specs.Laid.{frameOf}
-use Rattle.uslp_reader.proofs.Done.{ReadDone, done-reads}
+use Rattle.uslp_reader.proofs.Done.{done-reads}
 use Rattle.uslp_reader.proofs.Paths.{contents-there}
 
 module _ (spare : ℕ) (h : PrimaryHeader) (f : TransferFrameDataFieldHeader) (d : List ℕ) (o : OperationalControlField) where

@@ -1,5 +1,5 @@
 -- Demand 2 holds of the reader and the writer here.
-use mathlib.Core.Path.{_≡_, refl, sym, ap, _∙_}
+use mathlib.Core.Path.{_≡_, refl}
 use mathlib.Core.Bool.{Bool, true, false, not, _&&_, _||_}
 use mathlib.Core.List.{List, [], _∷_, _++_}
 use Prim.Native.Nat.{ℕ}
@@ -14,10 +14,10 @@ use Rattle.uslp_primary_header.specs.Header.{headerChecking}
 use Rattle.uslp_primary_header.proofs.Checks.{channel-in, map-in, width-in, count-in, checks-done}
 use Rattle.uslp_layout.specs.Layout.{present}
 use Rattle.uslp_reader.specs.Reader.{frameReading}
-use Rattle.uslp_writer.specs.Frame.{total, completed, ocfMissing, frameChecks, frameWriting}
+use Rattle.uslp_writer.specs.Frame.{total, completed, frameChecks, frameWriting}
 use Rattle.uslp_writer.specs.declared.TransferFrameCreator.{TransferFrameCreator}
 use Rattle.uslp_writer.proofs.Paths.{writing-done, writing-through}
-use Rattle.uslp_roundtrip.specs.Demand.{Demand2Reader, Demand2Writer, FieldsOf, over}
+use Rattle.uslp_roundtrip.specs.Demand.{Demand2Reader, Demand2Writer, over}
 use Rattle.uslp_roundtrip.proofs.Exactly.{exactly}
 use Rattle.uslp_roundtrip.proofs.Trips.{written-fields}
 

@@ -1,6 +1,6 @@
 -- Reading is done exactly if the octets begin with the layout of some fields, and gives those fields: demand 2 of the reader.
 use mathlib.Core.Path.{_≡_, refl, ap, sym, _∙_, subst}
-use mathlib.Core.Bool.{Bool, true, false}
+use mathlib.Core.Bool.{Bool, true}
 use mathlib.Core.Logic.{_↔_}
 use mathlib.Core.List.{List, _++_}
 use Prim.Native.Nat.{ℕ, _-_, _≤_}
@@ -19,11 +19,10 @@ use Rattle.uslp_data_field_header.specs.Field.{fieldReading}
 use Rattle.uslp_data_field_header.specs.declared.TransferFrameDataFieldHeader.{TransferFrameDataFieldHeader}
 use Rattle.uslp_layout.specs.Layout.{needed, layout}
 use Rattle.uslp_reader.specs.Reader.{frameWith, frameReading, contentsIn}
-use Rattle.uslp_reader.specs.declared.TransferFrame.{TransferFrame}
-use Rattle.uslp_reader.proofs.Done.{ReadDone, read-done, done-reads}
+use Rattle.uslp_reader.proofs.Done.{read-done, done-reads}
 use Rattle.uslp_roundtrip.specs.Laid.{frameOf, Laid}
 use Rattle.uslp_roundtrip.proofs.Complete.{complete, complete-contents}
-use Rattle.uslp_roundtrip.proofs.Sound.{are-take, laid, is-frame}
+use Rattle.uslp_roundtrip.proofs.Sound.{are-take, laid}
 
 module _ (s : List ℕ) (fecf : Bool) (h : PrimaryHeader) (f : TransferFrameDataFieldHeader) (contents : List ℕ) (ocf : OperationalControlField)
     (l : Laid s fecf h f contents ocf) where

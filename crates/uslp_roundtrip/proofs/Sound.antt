@@ -1,29 +1,28 @@
 -- What is read stands in the octets as the layout of its fields.
 use mathlib.Core.Path.{_≡_, refl, ap, ap₂, sym, _∙_, subst}
 use mathlib.Core.Bool.{Bool, true, false, cond}
-use mathlib.Core.List.{List, [], _∷_, _++_, append-assoc, append-nil}
+use mathlib.Core.List.{List, _++_, append-assoc}
 use Prim.Native.Nat.{ℕ, _+_, _-_, _^_, _<_, _≤_}
 use native.Mathlib.Nat.{mod-lt}
 use native.Mathlib.Omega.{arith}
 use native.Mathlib.Decide.{decLt}
-use lib.ListN.{length, take, drop, getD, length-take, length-drop, length-append, List·getD-eq-default}
-use lib.Seq.{take-add, take-take, drop-drop, getD-take, getD-drop, length-take-le}
+use lib.ListN.{length, take, drop, length-take, length-drop, List·getD-eq-default}
+use lib.Seq.{take-add, take-take, getD-take, getD-drop, length-take-le}
 use lib.Dec.{lit<}
-use Rattle.uslp_octets.specs.Octets.{AreOctets, octets, word, pack}
+use Rattle.uslp_octets.specs.Octets.{AreOctets, octets, word}
 use Rattle.uslp_octets.proofs.Laws.{octets-word, word-lt, word-take}
 use Rattle.uslp_checksum.specs.Checksum.{checksumOf}
 use Rattle.uslp_checksum.proofs.Laws.{residue}
 use Rattle.uslp_kinds.specs.Outcome.{done}
-use Rattle.uslp_kinds.specs.declared.OperationalControlField.{OperationalControlField}
-use Rattle.uslp_kinds.specs.declared.OperationalControlField.the-variants.{Absent, Present}
-use Rattle.uslp_primary_header.specs.Header.{table, lenHeader, lenFrame, spareIn, headerReading}
+use Rattle.uslp_kinds.specs.declared.OperationalControlField.the-variants.{Present}
+use Rattle.uslp_primary_header.specs.Header.{lenHeader, lenFrame, spareIn}
 use Rattle.uslp_primary_header.specs.declared.PrimaryHeader.{PrimaryHeader}
 use Rattle.uslp_primary_header.proofs.RoundTrip as header-trip
-use Rattle.uslp_data_field_header.specs.Field.{fieldTable, lenField, fieldReading}
+use Rattle.uslp_data_field_header.specs.Field.{lenField}
 use Rattle.uslp_data_field_header.specs.declared.TransferFrameDataFieldHeader.{TransferFrameDataFieldHeader}
 use Rattle.uslp_data_field_header.proofs.RoundTrip as field-trip
 use Rattle.uslp_layout.specs.Layout.{dataStart, needed, present, ocfOctets, body, withFecf, layout, WellFormed}
-use Rattle.uslp_reader.specs.Reader.{ocfAt, frameWith, frameReading, contentsIn}
+use Rattle.uslp_reader.specs.Reader.{ocfAt, frameReading, contentsIn}
 use Rattle.uslp_reader.specs.declared.TransferFrame.{TransferFrame}
 use Rattle.uslp_reader.proofs.Done.{ReadDone, read-done}
 use Rattle.uslp_reader.proofs.Paths.{contents-there}

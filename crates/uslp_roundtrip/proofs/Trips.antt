@@ -12,9 +12,8 @@ use Rattle.uslp_kinds.specs.declared.OperationalControlField.{OperationalContro
 use Rattle.uslp_kinds.specs.declared.OperationalControlField.the-variants.{Absent, Present}
 use Rattle.uslp_primary_header.specs.Header.{lenFrame, spareIn}
 use Rattle.uslp_primary_header.specs.declared.PrimaryHeader.{PrimaryHeader}
-use Rattle.uslp_data_field_header.specs.declared.TransferFrameDataFieldHeader.{TransferFrameDataFieldHeader}
 use Rattle.uslp_layout.specs.Layout.{needed, present, layout, WellFormed}
-use Rattle.uslp_writer.specs.Frame.{flagged, total, completed, ocfMissing, frameOctets, frameWriting}
+use Rattle.uslp_writer.specs.Frame.{flagged, total, completed, frameOctets, frameWriting}
 use Rattle.uslp_writer.specs.declared.TransferFrameCreator.{TransferFrameCreator}
 use Rattle.uslp_writer.proofs.Headers.{completed-passes}
 use Rattle.uslp_writer.proofs.Paths.{Through, writing-through, writing-done}

@@ -1,8 +1,7 @@
 -- `uslp_text::decimal_len` meets its contract. The loop's invariant: the digits counted and those of the rest are the digits of the number.
-use mathlib.Core.Path.{_≡_, refl, ap, _∙_}
+use mathlib.Core.Path.{_≡_, ap, _∙_}
 use Prim.Native.Nat.{ℕ, suc, _+_, _-_, _/_, _≤_, _<_, _^_}
 use native.Mathlib.Omega.{arith}
-use lib.Dec.{lit<}
 use Rattle.uslp_text.specs.Text.{widthIn}
 use Rattle.uslp_text.proofs.Width.{width-last, width-more, tenth, two-digits}
 use Rattle.uslp_text.proofs.decimal_len.Statement.{statement}

@@ -1,5 +1,5 @@
 -- `uslp_kinds::UslpProtocolId::from_number` meets its contract: each arm knows the number that it was taken for.
-use mathlib.Core.Path.{_≡_, sym, ap}
+use mathlib.Core.Path.{sym, ap}
 use borrow.Author.Tests.{le-ltb, ne-eqb}
 use Rattle.uslp_kinds.proofs.Arms.{past}
 use native.Mathlib.Omega.{arith}
