@@ -9,10 +9,10 @@ use contract.Lifetimes.{Lfts}
 use denote.Ref.{RefT, now}
 use Rattle.uslp_octets.specs.Octets.{pack}
 use Rattle.uslp_kinds.specs.Outcome.{Outcome, done, refused, firstOf}
-use Rattle.uslp_kinds.proofs.Outcomes.{refused-keeps}
+use Rattle.uslp_kinds.proofs.Outcomes.{not-done, refused-keeps}
 use Rattle.uslp_kinds.specs.declared.Refusal.{Refusal}
 use Rattle.uslp_kinds.specs.declared.LengthAnswer.the-variants.{Refused}
-use Rattle.uslp_primary_header.specs.Header.{table, lenHeader, headerChecks, headerWriting}
+use Rattle.uslp_primary_header.specs.Header.{table, lenHeader, headerChecks, headerWriting, countSetting, lengthSetting}
 use Rattle.uslp_primary_header.specs.declared.PrimaryHeader.{PrimaryHeader}
 use Rattle.uslp_primary_header.proofs as header
 use Rattle.uslp_data_field_header.specs.Field.{fieldTable, lenField, fieldChecks, fieldWriting}
@@ -25,23 +25,43 @@ use Rattle.uslp_writer.specs.declared.TransferFrameCreator.{TransferFrameCreato
 use Rattle.uslp_writer.specs.declared.TransferFrameCreatorWithReservedData.{TransferFrameCreatorWithReservedData}
 use Rattle.uslp_writer.specs.declared.ReservedAnswer.the-variants as reserved-answer
 use Rattle.uslp_writer.proofs as frame
-use Rattle.uslp_demands.specs.Promise.{Function, Allows}
+use Rattle.uslp_kinds.specs.declared.DoneAnswer.the-variants as done-answer
+use Rattle.uslp_listing.specs.Listing.{listing, room, listingOver}
+use Rattle.uslp_listing.proofs as listings
+use Rattle.uslp_lent.specs.Setting.{headerLeft, headerOff}
+use Rattle.uslp_lent.proofs.setters as setters
+use Rattle.uslp_demands.specs.Promise.{Function, function, Allows}
+use Rattle.uslp_demands.specs.Clause.{Implies}
+use Rattle.uslp_demands.proofs.Facts.{implies}
 
 -- the functions, each with its promise
 abbrev fn-write-to-slice : Function
-fn-write-to-slice = record { lifetimes = _; params = header.PrimaryHeader.write_to_slice.Kinds.ps; result = header.PrimaryHeader.write_to_slice.Kinds.r; asks = header.PrimaryHeader.write_to_slice.Reads.Pre; learnt = header.PrimaryHeader.write_to_slice.Reads.Learnt }
+fn-write-to-slice =
+    function header.PrimaryHeader.write_to_slice.Kinds.ps header.PrimaryHeader.write_to_slice.Kinds.r
+    header.PrimaryHeader.write_to_slice.Reads.Pre header.PrimaryHeader.write_to_slice.Reads.Learnt
 
 abbrev fn-transfer-frame-data-field-header-write-to-slice : Function
-fn-transfer-frame-data-field-header-write-to-slice = record { lifetimes = _; params = field.TransferFrameDataFieldHeader.write_to_slice.Kinds.ps; result = field.TransferFrameDataFieldHeader.write_to_slice.Kinds.r; asks = field.TransferFrameDataFieldHeader.write_to_slice.Reads.Pre; learnt = field.TransferFrameDataFieldHeader.write_to_slice.Reads.Learnt }
+fn-transfer-frame-data-field-header-write-to-slice =
+    function field.TransferFrameDataFieldHeader.write_to_slice.Kinds.ps field.TransferFrameDataFieldHeader.write_to_slice.Kinds.r
+    field.TransferFrameDataFieldHeader.write_to_slice.Reads.Pre field.TransferFrameDataFieldHeader.write_to_slice.Reads.Learnt
 
 abbrev fn-transfer-frame-creator-write-to-slice : Function
-fn-transfer-frame-creator-write-to-slice = record { lifetimes = _; params = frame.TransferFrameCreator.write_to_slice.Kinds.ps; result = frame.TransferFrameCreator.write_to_slice.Kinds.r; asks = frame.TransferFrameCreator.write_to_slice.Reads.Pre; learnt = frame.TransferFrameCreator.write_to_slice.Reads.Learnt }
+fn-transfer-frame-creator-write-to-slice =
+    function frame.TransferFrameCreator.write_to_slice.Kinds.ps frame.TransferFrameCreator.write_to_slice.Kinds.r
+    frame.TransferFrameCreator.write_to_slice.Reads.Pre frame.TransferFrameCreator.write_to_slice.Reads.Learnt
 
 abbrev fn-new : Function
-fn-new = record { lifetimes = _; params = frame.TransferFrameCreatorWithReservedData.new.Kinds.ps; result = frame.TransferFrameCreatorWithReservedData.new.Kinds.r; asks = frame.TransferFrameCreatorWithReservedData.new.Reads.Pre; learnt = frame.TransferFrameCreatorWithReservedData.new.Reads.Learnt }
+fn-new =
+    function frame.TransferFrameCreatorWithReservedData.new.Kinds.ps frame.TransferFrameCreatorWithReservedData.new.Kinds.r
+    frame.TransferFrameCreatorWithReservedData.new.Reads.Pre frame.TransferFrameCreatorWithReservedData.new.Reads.Learnt
 
 abbrev fn-finish : Function
-fn-finish = record { lifetimes = _; params = frame.TransferFrameCreatorWithReservedData.finish.Kinds.ps; result = frame.TransferFrameCreatorWithReservedData.finish.Kinds.r; asks = frame.TransferFrameCreatorWithReservedData.finish.Reads.Pre; learnt = frame.TransferFrameCreatorWithReservedData.finish.Reads.Learnt }
+fn-finish =
+    function frame.TransferFrameCreatorWithReservedData.finish.Kinds.ps frame.TransferFrameCreatorWithReservedData.finish.Kinds.r
+    frame.TransferFrameCreatorWithReservedData.finish.Reads.Pre frame.TransferFrameCreatorWithReservedData.finish.Reads.Learnt
+
+abbrev fn-list : Function
+fn-list = function listings.list.Kinds.ps listings.list.Kinds.r listings.list.Reads.Pre listings.list.Reads.Learnt
 
 -- the last check of a writing: room
 abbrev short : {A : Type 0} → List ℕ → ℕ → List (Bool × Outcome A)
@@ -83,3 +103,26 @@ module _ (r : Refusal) (s : RefT (List ℕ)) (left : List ℕ) where
   finish-kept κs k e =
       refused-keeps (finishLength k (length (now s)))
       (cond (k .«has_fecf») (withFecf true (take (k .«len_written» - 2) (now s)) ++ drop (k .«len_written») (now s)) (now s)) (now s) (sym e)
+
+  pub list-kept : (κs : Lfts 2) (recording : RefT (List ℕ))
+      → Allows fn-list κs (recording, (s, tt)) (Refused r, (tt, (left, tt)))
+      → left ≡ now s
+  unfolding listingOver
+  list-kept κs recording e =
+      refused-keeps (firstOf (short (now s) room) (done (length (listing (now recording))))) (listing (now recording) ++ drop (length (listing (now recording))) (now s)) (now s)
+      (sym e)
+
+-- a setter over a lent header leaves what its decision says: on a refusal the header that it found
+setting-kept : (h left : PrimaryHeader) (o : Outcome PrimaryHeader) {k : ℕ} {vs : List ℕ} → left ≡ headerLeft h o → refused k vs ≡ headerOff o → left ≡ h
+setting-kept h left (done g) e f = absurd (not-done f)
+setting-kept h left (refused j ws) e f = e
+
+module _ (r : Refusal) (h : RefT PrimaryHeader) (left : PrimaryHeader) where
+  pub frame-len-kept : (κs : Lfts 1) (n : ℕ)
+      → Implies setters.set_frame_len.ended (λ M. setters.set_frame_len.clauses) κs (h, (n, tt)) (done-answer.Refused r, (left, (tt, tt))) (left ≡ now h)
+  frame-len-kept κs n = implies _ _ (λ e. setting-kept (now h) left (lengthSetting (now h) n) (e .0) (e .1))
+
+  pub vc-frame-count-kept : (κs : Lfts 1) (w n : ℕ)
+      → Implies setters.set_vc_frame_count.ended (λ M. setters.set_vc_frame_count.clauses) κs (h, (w, (n, tt)))
+      (done-answer.Refused r, (left, (tt, (tt, tt)))) (left ≡ now h)
+  vc-frame-count-kept κs w n = implies _ _ (λ e. setting-kept (now h) left (countSetting (now h) w n) (e .0) (e .1))

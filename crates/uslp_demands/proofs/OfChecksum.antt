@@ -5,18 +5,20 @@ use Prim.Native.Nat.{ℕ}
 use native.Mathlib.Omega.{arith}
 use Rattle.uslp_checksum.specs.Checksum.{bit, step, feed, lows, bits, checksumOf}
 use Rattle.uslp_checksum.proofs as checksum
-use Rattle.uslp_demands.specs.Promise.{Function, at, Allows, Settles}
+use Rattle.uslp_demands.specs.Promise.{Function, function, at, Allows, Settles}
 use Rattle.uslp_demands.proofs.Alike.{alike}
 
 -- the functions, each with its promise
 abbrev fn-checksum : Function
-fn-checksum = record { lifetimes = _; params = checksum.checksum.Kinds.ps; result = checksum.checksum.Kinds.r; asks = checksum.checksum.Reads.Pre; learnt = checksum.checksum.Reads.Learnt }
+fn-checksum = function checksum.checksum.Kinds.ps checksum.checksum.Kinds.r checksum.checksum.Reads.Pre checksum.checksum.Reads.Learnt
 
 abbrev fn-checksum-bitwise : Function
-fn-checksum-bitwise = record { lifetimes = _; params = checksum.checksum_bitwise.Kinds.ps; result = checksum.checksum_bitwise.Kinds.r; asks = checksum.checksum_bitwise.Reads.Pre; learnt = checksum.checksum_bitwise.Reads.Learnt }
+fn-checksum-bitwise =
+    function checksum.checksum_bitwise.Kinds.ps checksum.checksum_bitwise.Kinds.r
+    checksum.checksum_bitwise.Reads.Pre checksum.checksum_bitwise.Reads.Learnt
 
 abbrev fn-update : Function
-fn-update = record { lifetimes = _; params = checksum.update.Kinds.ps; result = checksum.update.Kinds.r; asks = checksum.update.Reads.Pre; learnt = checksum.update.Reads.Learnt }
+fn-update = function checksum.update.Kinds.ps checksum.update.Kinds.r checksum.update.Reads.Pre checksum.update.Reads.Learnt
 
 -- the nine octets of the catalogue's check value
 abbrev digits : List ℕ

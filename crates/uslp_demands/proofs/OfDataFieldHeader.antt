@@ -15,34 +15,50 @@ use Rattle.uslp_data_field_header.specs.declared.TransferFrameDataFieldHeader.{
 use Rattle.uslp_data_field_header.specs.declared.DataFieldHeaderAnswer.the-variants as field-answer
 use Rattle.uslp_data_field_header.proofs.RoundTrip.{field-back}
 use Rattle.uslp_data_field_header.proofs as field
-use Rattle.uslp_demands.specs.Promise.{Function, at, Allows, Settles}
+use Rattle.uslp_demands.specs.Promise.{Function, function, at, Allows, Settles}
 use Rattle.uslp_roundtrip.specs.Samples.{whole, spanning}
 use Rattle.uslp_demands.proofs.Alike.{alike}
 
 -- the functions, each with its promise
 abbrev fn-new : Function
-fn-new = record { lifetimes = _; params = field.TransferFrameDataFieldHeader.new.Kinds.ps; result = field.TransferFrameDataFieldHeader.new.Kinds.r; asks = field.TransferFrameDataFieldHeader.new.Reads.Pre; learnt = field.TransferFrameDataFieldHeader.new.Reads.Learnt }
+fn-new =
+    function field.TransferFrameDataFieldHeader.new.Kinds.ps field.TransferFrameDataFieldHeader.new.Kinds.r
+    field.TransferFrameDataFieldHeader.new.Reads.Pre field.TransferFrameDataFieldHeader.new.Reads.Learnt
 
 abbrev fn-construction-rule : Function
-fn-construction-rule = record { lifetimes = _; params = field.TransferFrameDataFieldHeader.construction_rule.Kinds.ps; result = field.TransferFrameDataFieldHeader.construction_rule.Kinds.r; asks = field.TransferFrameDataFieldHeader.construction_rule.Reads.Pre; learnt = field.TransferFrameDataFieldHeader.construction_rule.Reads.Learnt }
+fn-construction-rule =
+    function field.TransferFrameDataFieldHeader.construction_rule.Kinds.ps field.TransferFrameDataFieldHeader.construction_rule.Kinds.r
+    field.TransferFrameDataFieldHeader.construction_rule.Reads.Pre field.TransferFrameDataFieldHeader.construction_rule.Reads.Learnt
 
 abbrev fn-uslp-protocol-id : Function
-fn-uslp-protocol-id = record { lifetimes = _; params = field.TransferFrameDataFieldHeader.uslp_protocol_id.Kinds.ps; result = field.TransferFrameDataFieldHeader.uslp_protocol_id.Kinds.r; asks = field.TransferFrameDataFieldHeader.uslp_protocol_id.Reads.Pre; learnt = field.TransferFrameDataFieldHeader.uslp_protocol_id.Reads.Learnt }
+fn-uslp-protocol-id =
+    function field.TransferFrameDataFieldHeader.uslp_protocol_id.Kinds.ps field.TransferFrameDataFieldHeader.uslp_protocol_id.Kinds.r
+    field.TransferFrameDataFieldHeader.uslp_protocol_id.Reads.Pre field.TransferFrameDataFieldHeader.uslp_protocol_id.Reads.Learnt
 
 abbrev fn-fhp-or-lvo : Function
-fn-fhp-or-lvo = record { lifetimes = _; params = field.TransferFrameDataFieldHeader.fhp_or_lvo.Kinds.ps; result = field.TransferFrameDataFieldHeader.fhp_or_lvo.Kinds.r; asks = field.TransferFrameDataFieldHeader.fhp_or_lvo.Reads.Pre; learnt = field.TransferFrameDataFieldHeader.fhp_or_lvo.Reads.Learnt }
+fn-fhp-or-lvo =
+    function field.TransferFrameDataFieldHeader.fhp_or_lvo.Kinds.ps field.TransferFrameDataFieldHeader.fhp_or_lvo.Kinds.r
+    field.TransferFrameDataFieldHeader.fhp_or_lvo.Reads.Pre field.TransferFrameDataFieldHeader.fhp_or_lvo.Reads.Learnt
 
 abbrev fn-len-header : Function
-fn-len-header = record { lifetimes = _; params = field.TransferFrameDataFieldHeader.len_header.Kinds.ps; result = field.TransferFrameDataFieldHeader.len_header.Kinds.r; asks = field.TransferFrameDataFieldHeader.len_header.Reads.Pre; learnt = field.TransferFrameDataFieldHeader.len_header.Reads.Learnt }
+fn-len-header =
+    function field.TransferFrameDataFieldHeader.len_header.Kinds.ps field.TransferFrameDataFieldHeader.len_header.Kinds.r
+    field.TransferFrameDataFieldHeader.len_header.Reads.Pre field.TransferFrameDataFieldHeader.len_header.Reads.Learnt
 
 abbrev fn-checked : Function
-fn-checked = record { lifetimes = _; params = field.TransferFrameDataFieldHeader.checked.Kinds.ps; result = field.TransferFrameDataFieldHeader.checked.Kinds.r; asks = field.TransferFrameDataFieldHeader.checked.Reads.Pre; learnt = field.TransferFrameDataFieldHeader.checked.Reads.Learnt }
+fn-checked =
+    function field.TransferFrameDataFieldHeader.checked.Kinds.ps field.TransferFrameDataFieldHeader.checked.Kinds.r
+    field.TransferFrameDataFieldHeader.checked.Reads.Pre field.TransferFrameDataFieldHeader.checked.Reads.Learnt
 
 abbrev fn-from-bytes : Function
-fn-from-bytes = record { lifetimes = _; params = field.TransferFrameDataFieldHeader.from_bytes.Kinds.ps; result = field.TransferFrameDataFieldHeader.from_bytes.Kinds.r; asks = field.TransferFrameDataFieldHeader.from_bytes.Reads.Pre; learnt = field.TransferFrameDataFieldHeader.from_bytes.Reads.Learnt }
+fn-from-bytes =
+    function field.TransferFrameDataFieldHeader.from_bytes.Kinds.ps field.TransferFrameDataFieldHeader.from_bytes.Kinds.r
+    field.TransferFrameDataFieldHeader.from_bytes.Reads.Pre field.TransferFrameDataFieldHeader.from_bytes.Reads.Learnt
 
 abbrev fn-write-to-slice : Function
-fn-write-to-slice = record { lifetimes = _; params = field.TransferFrameDataFieldHeader.write_to_slice.Kinds.ps; result = field.TransferFrameDataFieldHeader.write_to_slice.Kinds.r; asks = field.TransferFrameDataFieldHeader.write_to_slice.Reads.Pre; learnt = field.TransferFrameDataFieldHeader.write_to_slice.Reads.Learnt }
+fn-write-to-slice =
+    function field.TransferFrameDataFieldHeader.write_to_slice.Kinds.ps field.TransferFrameDataFieldHeader.write_to_slice.Kinds.r
+    field.TransferFrameDataFieldHeader.write_to_slice.Reads.Pre field.TransferFrameDataFieldHeader.write_to_slice.Reads.Learnt
 
 -- rule 7 with a pointer, which no call makes
 abbrev odd : TransferFrameDataFieldHeader

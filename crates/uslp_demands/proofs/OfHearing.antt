@@ -15,22 +15,22 @@ use Rattle.uslp_hearing.specs.declared.HearAnswer.the-variants.{Done, Refused}
 use Rattle.uslp_hearing.specs.declared.JudgeAnswer.the-variants as judge-answer
 use Rattle.uslp_hearing.proofs.Heard.{hear-back, judge-back}
 use Rattle.uslp_hearing.proofs as hearing
-use Rattle.uslp_demands.specs.Promise.{Function, at, Allows, Settles, Shows}
+use Rattle.uslp_demands.specs.Promise.{Function, function, at, Allows, Settles, Shows}
 use Rattle.uslp_roundtrip.specs.Samples.{octetsF, some, readF}
 use Rattle.uslp_demands.proofs.Alike.{alike}
 
 -- the functions, each with its promise
 abbrev fn-hear : Function
-fn-hear = record { lifetimes = _; params = hearing.hear.Kinds.ps; result = hearing.hear.Kinds.r; asks = hearing.hear.Reads.Pre; learnt = hearing.hear.Reads.Learnt }
+fn-hear = function hearing.hear.Kinds.ps hearing.hear.Kinds.r hearing.hear.Reads.Pre hearing.hear.Reads.Learnt
 
 abbrev fn-judge : Function
-fn-judge = record { lifetimes = _; params = hearing.judge.Kinds.ps; result = hearing.judge.Kinds.r; asks = hearing.judge.Reads.Pre; learnt = hearing.judge.Reads.Learnt }
+fn-judge = function hearing.judge.Kinds.ps hearing.judge.Kinds.r hearing.judge.Reads.Pre hearing.judge.Reads.Learnt
 
 abbrev fn-handed-on : Function
-fn-handed-on = record { lifetimes = _; params = hearing.handed_on.Kinds.ps; result = hearing.handed_on.Kinds.r; asks = hearing.handed_on.Reads.Pre; learnt = hearing.handed_on.Reads.Learnt }
+fn-handed-on = function hearing.handed_on.Kinds.ps hearing.handed_on.Kinds.r hearing.handed_on.Reads.Pre hearing.handed_on.Reads.Learnt
 
 abbrev fn-channel-of : Function
-fn-channel-of = record { lifetimes = _; params = hearing.channel_of.Kinds.ps; result = hearing.channel_of.Kinds.r; asks = hearing.channel_of.Reads.Pre; learnt = hearing.channel_of.Reads.Learnt }
+fn-channel-of = function hearing.channel_of.Kinds.ps hearing.channel_of.Kinds.r hearing.channel_of.Reads.Pre hearing.channel_of.Reads.Learnt
 
 pub hear-settles : Settles fn-hear
 hear-settles = record {

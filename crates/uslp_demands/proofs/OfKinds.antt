@@ -13,45 +13,69 @@ use Rattle.uslp_kinds.specs.declared.UslpProtocolId.the-variants.{UserDefinedOc
 use Rattle.uslp_kinds.specs.declared.Refusal.the-variants.{BadProtocol}
 use Rattle.uslp_kinds.specs.declared.ProtocolIdAnswer.the-variants.{Done, Refused}
 use Rattle.uslp_kinds.proofs as kinds
-use Rattle.uslp_demands.specs.Promise.{Function, Allows, Settles}
+use Rattle.uslp_demands.specs.Promise.{Function, function, Allows, Settles}
 use Rattle.uslp_demands.proofs.Alike.{alike}
 
 -- the functions, each with its promise
 abbrev fn-from-number : Function
-fn-from-number = record { lifetimes = _; params = kinds.SourceOrDestField.from_number.Kinds.ps; result = kinds.SourceOrDestField.from_number.Kinds.r; asks = kinds.SourceOrDestField.from_number.Reads.Pre; learnt = kinds.SourceOrDestField.from_number.Reads.Learnt }
+fn-from-number =
+    function kinds.SourceOrDestField.from_number.Kinds.ps kinds.SourceOrDestField.from_number.Kinds.r
+    kinds.SourceOrDestField.from_number.Reads.Pre kinds.SourceOrDestField.from_number.Reads.Learnt
 
 abbrev fn-number : Function
-fn-number = record { lifetimes = _; params = kinds.SourceOrDestField.number.Kinds.ps; result = kinds.SourceOrDestField.number.Kinds.r; asks = kinds.SourceOrDestField.number.Reads.Pre; learnt = kinds.SourceOrDestField.number.Reads.Learnt }
+fn-number =
+    function kinds.SourceOrDestField.number.Kinds.ps kinds.SourceOrDestField.number.Kinds.r
+    kinds.SourceOrDestField.number.Reads.Pre kinds.SourceOrDestField.number.Reads.Learnt
 
 abbrev fn-bypass-sequence-control-flag-from-number : Function
-fn-bypass-sequence-control-flag-from-number = record { lifetimes = _; params = kinds.BypassSequenceControlFlag.from_number.Kinds.ps; result = kinds.BypassSequenceControlFlag.from_number.Kinds.r; asks = kinds.BypassSequenceControlFlag.from_number.Reads.Pre; learnt = kinds.BypassSequenceControlFlag.from_number.Reads.Learnt }
+fn-bypass-sequence-control-flag-from-number =
+    function kinds.BypassSequenceControlFlag.from_number.Kinds.ps kinds.BypassSequenceControlFlag.from_number.Kinds.r
+    kinds.BypassSequenceControlFlag.from_number.Reads.Pre kinds.BypassSequenceControlFlag.from_number.Reads.Learnt
 
 abbrev fn-bypass-sequence-control-flag-number : Function
-fn-bypass-sequence-control-flag-number = record { lifetimes = _; params = kinds.BypassSequenceControlFlag.number.Kinds.ps; result = kinds.BypassSequenceControlFlag.number.Kinds.r; asks = kinds.BypassSequenceControlFlag.number.Reads.Pre; learnt = kinds.BypassSequenceControlFlag.number.Reads.Learnt }
+fn-bypass-sequence-control-flag-number =
+    function kinds.BypassSequenceControlFlag.number.Kinds.ps kinds.BypassSequenceControlFlag.number.Kinds.r
+    kinds.BypassSequenceControlFlag.number.Reads.Pre kinds.BypassSequenceControlFlag.number.Reads.Learnt
 
 abbrev fn-protocol-control-command-flag-from-number : Function
-fn-protocol-control-command-flag-from-number = record { lifetimes = _; params = kinds.ProtocolControlCommandFlag.from_number.Kinds.ps; result = kinds.ProtocolControlCommandFlag.from_number.Kinds.r; asks = kinds.ProtocolControlCommandFlag.from_number.Reads.Pre; learnt = kinds.ProtocolControlCommandFlag.from_number.Reads.Learnt }
+fn-protocol-control-command-flag-from-number =
+    function kinds.ProtocolControlCommandFlag.from_number.Kinds.ps kinds.ProtocolControlCommandFlag.from_number.Kinds.r
+    kinds.ProtocolControlCommandFlag.from_number.Reads.Pre kinds.ProtocolControlCommandFlag.from_number.Reads.Learnt
 
 abbrev fn-protocol-control-command-flag-number : Function
-fn-protocol-control-command-flag-number = record { lifetimes = _; params = kinds.ProtocolControlCommandFlag.number.Kinds.ps; result = kinds.ProtocolControlCommandFlag.number.Kinds.r; asks = kinds.ProtocolControlCommandFlag.number.Reads.Pre; learnt = kinds.ProtocolControlCommandFlag.number.Reads.Learnt }
+fn-protocol-control-command-flag-number =
+    function kinds.ProtocolControlCommandFlag.number.Kinds.ps kinds.ProtocolControlCommandFlag.number.Kinds.r
+    kinds.ProtocolControlCommandFlag.number.Reads.Pre kinds.ProtocolControlCommandFlag.number.Reads.Learnt
 
 abbrev fn-construction-rule-from-number : Function
-fn-construction-rule-from-number = record { lifetimes = _; params = kinds.ConstructionRule.from_number.Kinds.ps; result = kinds.ConstructionRule.from_number.Kinds.r; asks = kinds.ConstructionRule.from_number.Reads.Pre; learnt = kinds.ConstructionRule.from_number.Reads.Learnt }
+fn-construction-rule-from-number =
+    function kinds.ConstructionRule.from_number.Kinds.ps kinds.ConstructionRule.from_number.Kinds.r
+    kinds.ConstructionRule.from_number.Reads.Pre kinds.ConstructionRule.from_number.Reads.Learnt
 
 abbrev fn-construction-rule-number : Function
-fn-construction-rule-number = record { lifetimes = _; params = kinds.ConstructionRule.number.Kinds.ps; result = kinds.ConstructionRule.number.Kinds.r; asks = kinds.ConstructionRule.number.Reads.Pre; learnt = kinds.ConstructionRule.number.Reads.Learnt }
+fn-construction-rule-number =
+    function kinds.ConstructionRule.number.Kinds.ps kinds.ConstructionRule.number.Kinds.r
+    kinds.ConstructionRule.number.Reads.Pre kinds.ConstructionRule.number.Reads.Learnt
 
 abbrev fn-applicable-to-fixed-len-tfdz : Function
-fn-applicable-to-fixed-len-tfdz = record { lifetimes = _; params = kinds.ConstructionRule.applicable_to_fixed_len_tfdz.Kinds.ps; result = kinds.ConstructionRule.applicable_to_fixed_len_tfdz.Kinds.r; asks = kinds.ConstructionRule.applicable_to_fixed_len_tfdz.Reads.Pre; learnt = kinds.ConstructionRule.applicable_to_fixed_len_tfdz.Reads.Learnt }
+fn-applicable-to-fixed-len-tfdz =
+    function kinds.ConstructionRule.applicable_to_fixed_len_tfdz.Kinds.ps kinds.ConstructionRule.applicable_to_fixed_len_tfdz.Kinds.r
+    kinds.ConstructionRule.applicable_to_fixed_len_tfdz.Reads.Pre kinds.ConstructionRule.applicable_to_fixed_len_tfdz.Reads.Learnt
 
 abbrev fn-uslp-protocol-id-from-number : Function
-fn-uslp-protocol-id-from-number = record { lifetimes = _; params = kinds.UslpProtocolId.from_number.Kinds.ps; result = kinds.UslpProtocolId.from_number.Kinds.r; asks = kinds.UslpProtocolId.from_number.Reads.Pre; learnt = kinds.UslpProtocolId.from_number.Reads.Learnt }
+fn-uslp-protocol-id-from-number =
+    function kinds.UslpProtocolId.from_number.Kinds.ps kinds.UslpProtocolId.from_number.Kinds.r
+    kinds.UslpProtocolId.from_number.Reads.Pre kinds.UslpProtocolId.from_number.Reads.Learnt
 
 abbrev fn-uslp-protocol-id-number : Function
-fn-uslp-protocol-id-number = record { lifetimes = _; params = kinds.UslpProtocolId.number.Kinds.ps; result = kinds.UslpProtocolId.number.Kinds.r; asks = kinds.UslpProtocolId.number.Reads.Pre; learnt = kinds.UslpProtocolId.number.Reads.Learnt }
+fn-uslp-protocol-id-number =
+    function kinds.UslpProtocolId.number.Kinds.ps kinds.UslpProtocolId.number.Kinds.r
+    kinds.UslpProtocolId.number.Reads.Pre kinds.UslpProtocolId.number.Reads.Learnt
 
 abbrev fn-refusal-number : Function
-fn-refusal-number = record { lifetimes = _; params = kinds.Refusal.number.Kinds.ps; result = kinds.Refusal.number.Kinds.r; asks = kinds.Refusal.number.Reads.Pre; learnt = kinds.Refusal.number.Reads.Learnt }
+fn-refusal-number =
+    function kinds.Refusal.number.Kinds.ps kinds.Refusal.number.Kinds.r
+    kinds.Refusal.number.Reads.Pre kinds.Refusal.number.Reads.Learnt
 
 pub source-or-dest-from-settles : Settles fn-from-number
 source-or-dest-from-settles = record { total = λ κs a. tt; same = λ κs a x y s t. alike (s ∙ sym t) refl }

@@ -3,19 +3,19 @@ use mathlib.Core.Path.{refl, sym, _∙_}
 use mathlib.Core.Bool.{true, false}
 use native.Mathlib.Omega.{arith}
 use Rattle.uslp_layout.proofs as layout
-use Rattle.uslp_demands.specs.Promise.{Function, Allows, Settles}
+use Rattle.uslp_demands.specs.Promise.{Function, function, Allows, Settles}
 use Rattle.uslp_roundtrip.specs.Samples.{whole, spanning, some, flagged}
 use Rattle.uslp_demands.proofs.Alike.{alike}
 
 -- the functions, each with its promise
 abbrev fn-data-start : Function
-fn-data-start = record { lifetimes = _; params = layout.data_start.Kinds.ps; result = layout.data_start.Kinds.r; asks = layout.data_start.Reads.Pre; learnt = layout.data_start.Reads.Learnt }
+fn-data-start = function layout.data_start.Kinds.ps layout.data_start.Kinds.r layout.data_start.Reads.Pre layout.data_start.Reads.Learnt
 
 abbrev fn-needed-len : Function
-fn-needed-len = record { lifetimes = _; params = layout.needed_len.Kinds.ps; result = layout.needed_len.Kinds.r; asks = layout.needed_len.Reads.Pre; learnt = layout.needed_len.Reads.Learnt }
+fn-needed-len = function layout.needed_len.Kinds.ps layout.needed_len.Kinds.r layout.needed_len.Reads.Pre layout.needed_len.Reads.Learnt
 
 abbrev fn-fecf-len : Function
-fn-fecf-len = record { lifetimes = _; params = layout.fecf_len.Kinds.ps; result = layout.fecf_len.Kinds.r; asks = layout.fecf_len.Reads.Pre; learnt = layout.fecf_len.Reads.Learnt }
+fn-fecf-len = function layout.fecf_len.Kinds.ps layout.fecf_len.Kinds.r layout.fecf_len.Reads.Pre layout.fecf_len.Reads.Learnt
 
 pub data-start-settles : Settles fn-data-start
 data-start-settles = record { total = λ κs a. tt; same = λ κs a x y s t. alike (s ∙ sym t) refl }

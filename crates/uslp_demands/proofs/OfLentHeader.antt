@@ -13,7 +13,7 @@ use Rattle.uslp_primary_header.specs.declared.PrimaryHeader.{PrimaryHeader}
 use Rattle.uslp_primary_header.specs.declared.HeaderAnswer.the-variants as header-answer
 use Rattle.uslp_lent.specs.declared.setters.Decided.{Decided}
 use Rattle.uslp_lent.proofs.setters as setters
-use Rattle.uslp_demands.specs.Promise.{Function, Allows, Settles}
+use Rattle.uslp_demands.specs.Promise.{Function, function, Allows, Settles}
 use Rattle.uslp_demands.specs.Clause as clause
 use Rattle.uslp_roundtrip.specs.Samples.{some, made}
 use Rattle.uslp_demands.proofs.Alike.{alike, done-alike}
@@ -21,13 +21,17 @@ use Rattle.uslp_demands.proofs.Facts.{by-fact, shut}
 
 -- the functions, each with its promise
 abbrev fn-settle : Function
-fn-settle = record { lifetimes = _; params = setters.settle.Kinds.ps; result = setters.settle.Kinds.r; asks = setters.settle.Reads.Pre; learnt = setters.settle.Reads.Learnt }
+fn-settle = function setters.settle.Kinds.ps setters.settle.Kinds.r setters.settle.Reads.Pre setters.settle.Reads.Learnt
 
 abbrev fn-decide-frame-len : Function
-fn-decide-frame-len = record { lifetimes = _; params = setters.decide_frame_len.Kinds.ps; result = setters.decide_frame_len.Kinds.r; asks = setters.decide_frame_len.Reads.Pre; learnt = setters.decide_frame_len.Reads.Learnt }
+fn-decide-frame-len =
+    function setters.decide_frame_len.Kinds.ps setters.decide_frame_len.Kinds.r
+    setters.decide_frame_len.Reads.Pre setters.decide_frame_len.Reads.Learnt
 
 abbrev fn-decide-vc-frame-count : Function
-fn-decide-vc-frame-count = record { lifetimes = _; params = setters.decide_vc_frame_count.Kinds.ps; result = setters.decide_vc_frame_count.Kinds.r; asks = setters.decide_vc_frame_count.Reads.Pre; learnt = setters.decide_vc_frame_count.Reads.Learnt }
+fn-decide-vc-frame-count =
+    function setters.decide_vc_frame_count.Kinds.ps setters.decide_vc_frame_count.Kinds.r
+    setters.decide_vc_frame_count.Reads.Pre setters.decide_vc_frame_count.Reads.Learnt
 
 -- a header that is lent
 abbrev lent : PrimaryHeader → RefT PrimaryHeader

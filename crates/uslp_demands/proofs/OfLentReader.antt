@@ -37,7 +37,7 @@ use Rattle.uslp_lent.proofs.Back.{id-back, role-back, ocf-back}
 use Rattle.uslp_lent.proofs.reader as lent
 use Rattle.uslp_lent.proofs.reader.TransferFrameReader as reader
 use Rattle.uslp_demands.specs.Promise as promise
-use Rattle.uslp_demands.specs.Promise.{Function, at, Allows}
+use Rattle.uslp_demands.specs.Promise.{Function, function, at, Allows}
 use Rattle.uslp_demands.specs.Clause.{Settles, Shows, ShutsOut}
 use Rattle.uslp_roundtrip.specs.Samples.{some, made, spanning, octetsF, readF}
 use Rattle.uslp_demands.proofs.Alike.{alike}
@@ -45,7 +45,7 @@ use Rattle.uslp_demands.proofs.Facts.{by-fact, shut}
 
 -- the functions, each with its promise
 abbrev fn-frame-data-len : Function
-fn-frame-data-len = record { lifetimes = _; params = lent.frame_data_len.Kinds.ps; result = lent.frame_data_len.Kinds.r; asks = lent.frame_data_len.Reads.Pre; learnt = lent.frame_data_len.Reads.Learnt }
+fn-frame-data-len = function lent.frame_data_len.Kinds.ps lent.frame_data_len.Kinds.r lent.frame_data_len.Reads.Pre lent.frame_data_len.Reads.Learnt
 
 -- a reader that keeps the octets of frame F: it was read, or it was refused
 abbrev over : FrameAnswer → TransferFrameReader

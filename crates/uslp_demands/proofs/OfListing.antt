@@ -13,13 +13,13 @@ use Rattle.uslp_reader.specs.Reader.{frameReading}
 use Rattle.uslp_text.specs.Text.{widthIn}
 use Rattle.uslp_listing.specs.Listing.{linesFrom, listing, listingOver}
 use Rattle.uslp_listing.proofs as listing-proofs
-use Rattle.uslp_demands.specs.Promise.{Function, at, Allows, Settles}
+use Rattle.uslp_demands.specs.Promise.{Function, function, at, Allows, Settles}
 use Rattle.uslp_roundtrip.specs.Samples.{octetsF}
 use Rattle.uslp_demands.proofs.Alike.{alike}
 
 -- the functions, each with its promise
 abbrev fn-list : Function
-fn-list = record { lifetimes = _; params = listing-proofs.list.Kinds.ps; result = listing-proofs.list.Kinds.r; asks = listing-proofs.list.Reads.Pre; learnt = listing-proofs.list.Reads.Learnt }
+fn-list = function listing-proofs.list.Kinds.ps listing-proofs.list.Kinds.r listing-proofs.list.Reads.Pre listing-proofs.list.Reads.Learnt
 
 pub list-settles : Settles fn-list
 list-settles = record { total = λ κs a. tt; same = λ κs a x y s t. let e = leaving-one (s ∙ sym t) in alike (one-to-one paperLength (back length-answer.Done length-answer.Refused) length-back (e .0)) (λ i. (tt, (e .1 i, tt))) }

@@ -4,21 +4,21 @@ use mathlib.Core.List.{[], _∷_}
 use Prim.Native.Nat.{ℕ}
 use native.Mathlib.Omega.{arith}
 use Rattle.uslp_octets.proofs as octets
-use Rattle.uslp_demands.specs.Promise.{Function, at, Allows, Settles}
+use Rattle.uslp_demands.specs.Promise.{Function, function, at, Allows, Settles}
 use Rattle.uslp_demands.proofs.Alike.{alike}
 
 -- the functions, each with its promise
 abbrev fn-copy-octets : Function
-fn-copy-octets = record { lifetimes = _; params = octets.copy_octets.Kinds.ps; result = octets.copy_octets.Kinds.r; asks = octets.copy_octets.Reads.Pre; learnt = octets.copy_octets.Reads.Learnt }
+fn-copy-octets = function octets.copy_octets.Kinds.ps octets.copy_octets.Kinds.r octets.copy_octets.Reads.Pre octets.copy_octets.Reads.Learnt
 
 abbrev fn-put-number : Function
-fn-put-number = record { lifetimes = _; params = octets.put_number.Kinds.ps; result = octets.put_number.Kinds.r; asks = octets.put_number.Reads.Pre; learnt = octets.put_number.Reads.Learnt }
+fn-put-number = function octets.put_number.Kinds.ps octets.put_number.Kinds.r octets.put_number.Reads.Pre octets.put_number.Reads.Learnt
 
 abbrev fn-be-u16 : Function
-fn-be-u16 = record { lifetimes = _; params = octets.be_u16.Kinds.ps; result = octets.be_u16.Kinds.r; asks = octets.be_u16.Reads.Pre; learnt = octets.be_u16.Reads.Learnt }
+fn-be-u16 = function octets.be_u16.Kinds.ps octets.be_u16.Kinds.r octets.be_u16.Reads.Pre octets.be_u16.Reads.Learnt
 
 abbrev fn-be-u32 : Function
-fn-be-u32 = record { lifetimes = _; params = octets.be_u32.Kinds.ps; result = octets.be_u32.Kinds.r; asks = octets.be_u32.Reads.Pre; learnt = octets.be_u32.Reads.Learnt }
+fn-be-u32 = function octets.be_u32.Kinds.ps octets.be_u32.Kinds.r octets.be_u32.Reads.Pre octets.be_u32.Reads.Learnt
 
 pub copy-octets-settles : Settles fn-copy-octets
 copy-octets-settles = record { total = λ κs a. tt; same = λ κs a x y s t. alike refl (λ i. (tt, ((s ∙ sym t) i, tt))) }

@@ -17,43 +17,65 @@ use Rattle.uslp_primary_header.specs.declared.PrimaryHeader.{PrimaryHeader}
 use Rattle.uslp_primary_header.specs.declared.HeaderAnswer.the-variants as header-answer
 use Rattle.uslp_primary_header.proofs.RoundTrip.{header-one}
 use Rattle.uslp_primary_header.proofs as header
-use Rattle.uslp_demands.specs.Promise.{Function, at, Allows, Settles}
+use Rattle.uslp_demands.specs.Promise.{Function, function, at, Allows, Settles}
 use Rattle.uslp_roundtrip.specs.Samples.{some, made}
 use Rattle.uslp_demands.proofs.Alike.{alike}
 
 -- the functions, each with its promise
 abbrev fn-new : Function
-fn-new = record { lifetimes = _; params = header.PrimaryHeader.new.Kinds.ps; result = header.PrimaryHeader.new.Kinds.r; asks = header.PrimaryHeader.new.Reads.Pre; learnt = header.PrimaryHeader.new.Reads.Learnt }
+fn-new =
+    function header.PrimaryHeader.new.Kinds.ps header.PrimaryHeader.new.Kinds.r
+    header.PrimaryHeader.new.Reads.Pre header.PrimaryHeader.new.Reads.Learnt
 
 abbrev fn-with-vc-frame-count : Function
-fn-with-vc-frame-count = record { lifetimes = _; params = header.PrimaryHeader.with_vc_frame_count.Kinds.ps; result = header.PrimaryHeader.with_vc_frame_count.Kinds.r; asks = header.PrimaryHeader.with_vc_frame_count.Reads.Pre; learnt = header.PrimaryHeader.with_vc_frame_count.Reads.Learnt }
+fn-with-vc-frame-count =
+    function header.PrimaryHeader.with_vc_frame_count.Kinds.ps header.PrimaryHeader.with_vc_frame_count.Kinds.r
+    header.PrimaryHeader.with_vc_frame_count.Reads.Pre header.PrimaryHeader.with_vc_frame_count.Reads.Learnt
 
 abbrev fn-with-frame-len : Function
-fn-with-frame-len = record { lifetimes = _; params = header.PrimaryHeader.with_frame_len.Kinds.ps; result = header.PrimaryHeader.with_frame_len.Kinds.r; asks = header.PrimaryHeader.with_frame_len.Reads.Pre; learnt = header.PrimaryHeader.with_frame_len.Reads.Learnt }
+fn-with-frame-len =
+    function header.PrimaryHeader.with_frame_len.Kinds.ps header.PrimaryHeader.with_frame_len.Kinds.r
+    header.PrimaryHeader.with_frame_len.Reads.Pre header.PrimaryHeader.with_frame_len.Reads.Learnt
 
 abbrev fn-checked : Function
-fn-checked = record { lifetimes = _; params = header.PrimaryHeader.checked.Kinds.ps; result = header.PrimaryHeader.checked.Kinds.r; asks = header.PrimaryHeader.checked.Reads.Pre; learnt = header.PrimaryHeader.checked.Reads.Learnt }
+fn-checked =
+    function header.PrimaryHeader.checked.Kinds.ps header.PrimaryHeader.checked.Kinds.r
+    header.PrimaryHeader.checked.Reads.Pre header.PrimaryHeader.checked.Reads.Learnt
 
 abbrev fn-vc-frame-count : Function
-fn-vc-frame-count = record { lifetimes = _; params = header.PrimaryHeader.vc_frame_count.Kinds.ps; result = header.PrimaryHeader.vc_frame_count.Kinds.r; asks = header.PrimaryHeader.vc_frame_count.Reads.Pre; learnt = header.PrimaryHeader.vc_frame_count.Reads.Learnt }
+fn-vc-frame-count =
+    function header.PrimaryHeader.vc_frame_count.Kinds.ps header.PrimaryHeader.vc_frame_count.Kinds.r
+    header.PrimaryHeader.vc_frame_count.Reads.Pre header.PrimaryHeader.vc_frame_count.Reads.Learnt
 
 abbrev fn-vc-frame-count-len : Function
-fn-vc-frame-count-len = record { lifetimes = _; params = header.PrimaryHeader.vc_frame_count_len.Kinds.ps; result = header.PrimaryHeader.vc_frame_count_len.Kinds.r; asks = header.PrimaryHeader.vc_frame_count_len.Reads.Pre; learnt = header.PrimaryHeader.vc_frame_count_len.Reads.Learnt }
+fn-vc-frame-count-len =
+    function header.PrimaryHeader.vc_frame_count_len.Kinds.ps header.PrimaryHeader.vc_frame_count_len.Kinds.r
+    header.PrimaryHeader.vc_frame_count_len.Reads.Pre header.PrimaryHeader.vc_frame_count_len.Reads.Learnt
 
 abbrev fn-len-header : Function
-fn-len-header = record { lifetimes = _; params = header.PrimaryHeader.len_header.Kinds.ps; result = header.PrimaryHeader.len_header.Kinds.r; asks = header.PrimaryHeader.len_header.Reads.Pre; learnt = header.PrimaryHeader.len_header.Reads.Learnt }
+fn-len-header =
+    function header.PrimaryHeader.len_header.Kinds.ps header.PrimaryHeader.len_header.Kinds.r
+    header.PrimaryHeader.len_header.Reads.Pre header.PrimaryHeader.len_header.Reads.Learnt
 
 abbrev fn-len-frame : Function
-fn-len-frame = record { lifetimes = _; params = header.PrimaryHeader.len_frame.Kinds.ps; result = header.PrimaryHeader.len_frame.Kinds.r; asks = header.PrimaryHeader.len_frame.Reads.Pre; learnt = header.PrimaryHeader.len_frame.Reads.Learnt }
+fn-len-frame =
+    function header.PrimaryHeader.len_frame.Kinds.ps header.PrimaryHeader.len_frame.Kinds.r
+    header.PrimaryHeader.len_frame.Reads.Pre header.PrimaryHeader.len_frame.Reads.Learnt
 
 abbrev fn-equals : Function
-fn-equals = record { lifetimes = _; params = header.PrimaryHeader.equals.Kinds.ps; result = header.PrimaryHeader.equals.Kinds.r; asks = header.PrimaryHeader.equals.Reads.Pre; learnt = header.PrimaryHeader.equals.Reads.Learnt }
+fn-equals =
+    function header.PrimaryHeader.equals.Kinds.ps header.PrimaryHeader.equals.Kinds.r
+    header.PrimaryHeader.equals.Reads.Pre header.PrimaryHeader.equals.Reads.Learnt
 
 abbrev fn-from-bytes : Function
-fn-from-bytes = record { lifetimes = _; params = header.PrimaryHeader.from_bytes.Kinds.ps; result = header.PrimaryHeader.from_bytes.Kinds.r; asks = header.PrimaryHeader.from_bytes.Reads.Pre; learnt = header.PrimaryHeader.from_bytes.Reads.Learnt }
+fn-from-bytes =
+    function header.PrimaryHeader.from_bytes.Kinds.ps header.PrimaryHeader.from_bytes.Kinds.r
+    header.PrimaryHeader.from_bytes.Reads.Pre header.PrimaryHeader.from_bytes.Reads.Learnt
 
 abbrev fn-write-to-slice : Function
-fn-write-to-slice = record { lifetimes = _; params = header.PrimaryHeader.write_to_slice.Kinds.ps; result = header.PrimaryHeader.write_to_slice.Kinds.r; asks = header.PrimaryHeader.write_to_slice.Reads.Pre; learnt = header.PrimaryHeader.write_to_slice.Reads.Learnt }
+fn-write-to-slice =
+    function header.PrimaryHeader.write_to_slice.Kinds.ps header.PrimaryHeader.write_to_slice.Kinds.r
+    header.PrimaryHeader.write_to_slice.Reads.Pre header.PrimaryHeader.write_to_slice.Reads.Learnt
 
 -- its octets, and as many zeros
 abbrev octets : List ℕ

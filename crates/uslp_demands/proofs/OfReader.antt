@@ -20,46 +20,68 @@ use Rattle.uslp_reader.specs.declared.TransferFrame.{TransferFrame}
 use Rattle.uslp_reader.specs.declared.FrameAnswer.the-variants as frame-answer
 use Rattle.uslp_reader.proofs.Done.{frame-back}
 use Rattle.uslp_reader.proofs as reader
-use Rattle.uslp_demands.specs.Promise.{Function, at, Allows, Settles, Shows}
+use Rattle.uslp_demands.specs.Promise.{Function, function, at, Allows, Settles, Shows}
 use Rattle.uslp_roundtrip.specs.Samples.{some, whole, spanning, made, octetsF, readF}
 use Rattle.uslp_demands.proofs.Alike.{alike}
 
 -- the functions, each with its promise
 abbrev fn-from-bytes : Function
-fn-from-bytes = record { lifetimes = _; params = reader.TransferFrame.from_bytes.Kinds.ps; result = reader.TransferFrame.from_bytes.Kinds.r; asks = reader.TransferFrame.from_bytes.Reads.Pre; learnt = reader.TransferFrame.from_bytes.Reads.Learnt }
+fn-from-bytes =
+    function reader.TransferFrame.from_bytes.Kinds.ps reader.TransferFrame.from_bytes.Kinds.r
+    reader.TransferFrame.from_bytes.Reads.Pre reader.TransferFrame.from_bytes.Reads.Learnt
 
 abbrev fn-len-frame : Function
-fn-len-frame = record { lifetimes = _; params = reader.TransferFrame.len_frame.Kinds.ps; result = reader.TransferFrame.len_frame.Kinds.r; asks = reader.TransferFrame.len_frame.Reads.Pre; learnt = reader.TransferFrame.len_frame.Reads.Learnt }
+fn-len-frame =
+    function reader.TransferFrame.len_frame.Kinds.ps reader.TransferFrame.len_frame.Kinds.r
+    reader.TransferFrame.len_frame.Reads.Pre reader.TransferFrame.len_frame.Reads.Learnt
 
 abbrev fn-vc-id : Function
-fn-vc-id = record { lifetimes = _; params = reader.TransferFrame.vc_id.Kinds.ps; result = reader.TransferFrame.vc_id.Kinds.r; asks = reader.TransferFrame.vc_id.Reads.Pre; learnt = reader.TransferFrame.vc_id.Reads.Learnt }
+fn-vc-id =
+    function reader.TransferFrame.vc_id.Kinds.ps reader.TransferFrame.vc_id.Kinds.r
+    reader.TransferFrame.vc_id.Reads.Pre reader.TransferFrame.vc_id.Reads.Learnt
 
 abbrev fn-map-id : Function
-fn-map-id = record { lifetimes = _; params = reader.TransferFrame.map_id.Kinds.ps; result = reader.TransferFrame.map_id.Kinds.r; asks = reader.TransferFrame.map_id.Reads.Pre; learnt = reader.TransferFrame.map_id.Reads.Learnt }
+fn-map-id =
+    function reader.TransferFrame.map_id.Kinds.ps reader.TransferFrame.map_id.Kinds.r
+    reader.TransferFrame.map_id.Reads.Pre reader.TransferFrame.map_id.Reads.Learnt
 
 abbrev fn-spacecraft-id : Function
-fn-spacecraft-id = record { lifetimes = _; params = reader.TransferFrame.spacecraft_id.Kinds.ps; result = reader.TransferFrame.spacecraft_id.Kinds.r; asks = reader.TransferFrame.spacecraft_id.Reads.Pre; learnt = reader.TransferFrame.spacecraft_id.Reads.Learnt }
+fn-spacecraft-id =
+    function reader.TransferFrame.spacecraft_id.Kinds.ps reader.TransferFrame.spacecraft_id.Kinds.r
+    reader.TransferFrame.spacecraft_id.Reads.Pre reader.TransferFrame.spacecraft_id.Reads.Learnt
 
 abbrev fn-source-or-dest-field : Function
-fn-source-or-dest-field = record { lifetimes = _; params = reader.TransferFrame.source_or_dest_field.Kinds.ps; result = reader.TransferFrame.source_or_dest_field.Kinds.r; asks = reader.TransferFrame.source_or_dest_field.Reads.Pre; learnt = reader.TransferFrame.source_or_dest_field.Reads.Learnt }
+fn-source-or-dest-field =
+    function reader.TransferFrame.source_or_dest_field.Kinds.ps reader.TransferFrame.source_or_dest_field.Kinds.r
+    reader.TransferFrame.source_or_dest_field.Reads.Pre reader.TransferFrame.source_or_dest_field.Reads.Learnt
 
 abbrev fn-primary-header : Function
-fn-primary-header = record { lifetimes = _; params = reader.TransferFrame.primary_header.Kinds.ps; result = reader.TransferFrame.primary_header.Kinds.r; asks = reader.TransferFrame.primary_header.Reads.Pre; learnt = reader.TransferFrame.primary_header.Reads.Learnt }
+fn-primary-header =
+    function reader.TransferFrame.primary_header.Kinds.ps reader.TransferFrame.primary_header.Kinds.r
+    reader.TransferFrame.primary_header.Reads.Pre reader.TransferFrame.primary_header.Reads.Learnt
 
 abbrev fn-data-field-header : Function
-fn-data-field-header = record { lifetimes = _; params = reader.TransferFrame.data_field_header.Kinds.ps; result = reader.TransferFrame.data_field_header.Kinds.r; asks = reader.TransferFrame.data_field_header.Reads.Pre; learnt = reader.TransferFrame.data_field_header.Reads.Learnt }
+fn-data-field-header =
+    function reader.TransferFrame.data_field_header.Kinds.ps reader.TransferFrame.data_field_header.Kinds.r
+    reader.TransferFrame.data_field_header.Reads.Pre reader.TransferFrame.data_field_header.Reads.Learnt
 
 abbrev fn-operational-control-field : Function
-fn-operational-control-field = record { lifetimes = _; params = reader.TransferFrame.operational_control_field.Kinds.ps; result = reader.TransferFrame.operational_control_field.Kinds.r; asks = reader.TransferFrame.operational_control_field.Reads.Pre; learnt = reader.TransferFrame.operational_control_field.Reads.Learnt }
+fn-operational-control-field =
+    function reader.TransferFrame.operational_control_field.Kinds.ps reader.TransferFrame.operational_control_field.Kinds.r
+    reader.TransferFrame.operational_control_field.Reads.Pre reader.TransferFrame.operational_control_field.Reads.Learnt
 
 abbrev fn-raw-frame : Function
-fn-raw-frame = record { lifetimes = _; params = reader.TransferFrame.raw_frame.Kinds.ps; result = reader.TransferFrame.raw_frame.Kinds.r; asks = reader.TransferFrame.raw_frame.Reads.Pre; learnt = reader.TransferFrame.raw_frame.Reads.Learnt }
+fn-raw-frame =
+    function reader.TransferFrame.raw_frame.Kinds.ps reader.TransferFrame.raw_frame.Kinds.r
+    reader.TransferFrame.raw_frame.Reads.Pre reader.TransferFrame.raw_frame.Reads.Learnt
 
 abbrev fn-data : Function
-fn-data = record { lifetimes = _; params = reader.TransferFrame.data.Kinds.ps; result = reader.TransferFrame.data.Kinds.r; asks = reader.TransferFrame.data.Reads.Pre; learnt = reader.TransferFrame.data.Reads.Learnt }
+fn-data =
+    function reader.TransferFrame.data.Kinds.ps reader.TransferFrame.data.Kinds.r
+    reader.TransferFrame.data.Reads.Pre reader.TransferFrame.data.Reads.Learnt
 
 abbrev fn-data-of : Function
-fn-data-of = record { lifetimes = _; params = reader.data_of.Kinds.ps; result = reader.data_of.Kinds.r; asks = reader.data_of.Reads.Pre; learnt = reader.data_of.Reads.Learnt }
+fn-data-of = function reader.data_of.Kinds.ps reader.data_of.Kinds.r reader.data_of.Reads.Pre reader.data_of.Reads.Learnt
 
 pub from-bytes-settles : Settles fn-from-bytes
 from-bytes-settles = record { total = λ κs a. tt; same = λ κs a x y s t. alike (one-to-one paperFrame (back frame-answer.Done frame-answer.Refused) frame-back (s ∙ sym t)) refl }

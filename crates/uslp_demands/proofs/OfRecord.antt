@@ -22,37 +22,53 @@ use Rattle.uslp_record.specs.declared.Change.{Change}
 use Rattle.uslp_record.specs.declared.CountAnswer.the-variants as count-answer
 use Rattle.uslp_record.proofs.Back.{total-back, state-back, count-back, keeping-one}
 use Rattle.uslp_record.proofs as channels
-use Rattle.uslp_demands.specs.Promise.{Function, Allows, Settles}
+use Rattle.uslp_demands.specs.Promise.{Function, function, Allows, Settles}
 use Rattle.uslp_demands.specs.Cases.{channel, lastHeard}
 use Rattle.uslp_demands.proofs.Alike.{alike, done-alike}
 
 -- the functions, each with its promise
 abbrev fn-new : Function
-fn-new = record { lifetimes = _; params = channels.ChannelRecord.new.Kinds.ps; result = channels.ChannelRecord.new.Kinds.r; asks = channels.ChannelRecord.new.Reads.Pre; learnt = channels.ChannelRecord.new.Reads.Learnt }
+fn-new =
+    function channels.ChannelRecord.new.Kinds.ps channels.ChannelRecord.new.Kinds.r
+    channels.ChannelRecord.new.Reads.Pre channels.ChannelRecord.new.Reads.Learnt
 
 abbrev fn-open-channel : Function
-fn-open-channel = record { lifetimes = _; params = channels.ChannelRecord.open_channel.Kinds.ps; result = channels.ChannelRecord.open_channel.Kinds.r; asks = channels.ChannelRecord.open_channel.Reads.Pre; learnt = channels.ChannelRecord.open_channel.Reads.Learnt }
+fn-open-channel =
+    function channels.ChannelRecord.open_channel.Kinds.ps channels.ChannelRecord.open_channel.Kinds.r
+    channels.ChannelRecord.open_channel.Reads.Pre channels.ChannelRecord.open_channel.Reads.Learnt
 
 abbrev fn-close-channel : Function
-fn-close-channel = record { lifetimes = _; params = channels.ChannelRecord.close_channel.Kinds.ps; result = channels.ChannelRecord.close_channel.Kinds.r; asks = channels.ChannelRecord.close_channel.Reads.Pre; learnt = channels.ChannelRecord.close_channel.Reads.Learnt }
+fn-close-channel =
+    function channels.ChannelRecord.close_channel.Kinds.ps channels.ChannelRecord.close_channel.Kinds.r
+    channels.ChannelRecord.close_channel.Reads.Pre channels.ChannelRecord.close_channel.Reads.Learnt
 
 abbrev fn-channel-state : Function
-fn-channel-state = record { lifetimes = _; params = channels.ChannelRecord.channel_state.Kinds.ps; result = channels.ChannelRecord.channel_state.Kinds.r; asks = channels.ChannelRecord.channel_state.Reads.Pre; learnt = channels.ChannelRecord.channel_state.Reads.Learnt }
+fn-channel-state =
+    function channels.ChannelRecord.channel_state.Kinds.ps channels.ChannelRecord.channel_state.Kinds.r
+    channels.ChannelRecord.channel_state.Reads.Pre channels.ChannelRecord.channel_state.Reads.Learnt
 
 abbrev fn-total-missing : Function
-fn-total-missing = record { lifetimes = _; params = channels.ChannelRecord.total_missing.Kinds.ps; result = channels.ChannelRecord.total_missing.Kinds.r; asks = channels.ChannelRecord.total_missing.Reads.Pre; learnt = channels.ChannelRecord.total_missing.Reads.Learnt }
+fn-total-missing =
+    function channels.ChannelRecord.total_missing.Kinds.ps channels.ChannelRecord.total_missing.Kinds.r
+    channels.ChannelRecord.total_missing.Reads.Pre channels.ChannelRecord.total_missing.Reads.Learnt
 
 abbrev fn-same-channel : Function
-fn-same-channel = record { lifetimes = _; params = channels.same_channel.Kinds.ps; result = channels.same_channel.Kinds.r; asks = channels.same_channel.Reads.Pre; learnt = channels.same_channel.Reads.Learnt }
+fn-same-channel =
+    function channels.same_channel.Kinds.ps channels.same_channel.Kinds.r
+    channels.same_channel.Reads.Pre channels.same_channel.Reads.Learnt
 
 abbrev fn-search : Function
-fn-search = record { lifetimes = _; params = channels.search.Kinds.ps; result = channels.search.Kinds.r; asks = channels.search.Reads.Pre; learnt = channels.search.Reads.Learnt }
+fn-search = function channels.search.Kinds.ps channels.search.Kinds.r channels.search.Reads.Pre channels.search.Reads.Learnt
 
 abbrev fn-with-change : Function
-fn-with-change = record { lifetimes = _; params = channels.ChannelRecord.with_change.Kinds.ps; result = channels.ChannelRecord.with_change.Kinds.r; asks = channels.ChannelRecord.with_change.Reads.Pre; learnt = channels.ChannelRecord.with_change.Reads.Learnt }
+fn-with-change =
+    function channels.ChannelRecord.with_change.Kinds.ps channels.ChannelRecord.with_change.Kinds.r
+    channels.ChannelRecord.with_change.Reads.Pre channels.ChannelRecord.with_change.Reads.Learnt
 
 abbrev fn-judge-count : Function
-fn-judge-count = record { lifetimes = _; params = channels.ChannelRecord.judge_count.Kinds.ps; result = channels.ChannelRecord.judge_count.Kinds.r; asks = channels.ChannelRecord.judge_count.Reads.Pre; learnt = channels.ChannelRecord.judge_count.Reads.Learnt }
+fn-judge-count =
+    function channels.ChannelRecord.judge_count.Kinds.ps channels.ChannelRecord.judge_count.Kinds.r
+    channels.ChannelRecord.judge_count.Reads.Pre channels.ChannelRecord.judge_count.Reads.Learnt
 
 -- a channel open in the first slot, and not heard yet
 abbrev opened : ChannelRecord

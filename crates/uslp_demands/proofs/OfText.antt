@@ -6,21 +6,21 @@ use native.Mathlib.Omega.{arith}
 use lib.ListN.{getD}
 use Rattle.uslp_text.specs.Text.{widthIn}
 use Rattle.uslp_text.proofs as text
-use Rattle.uslp_demands.specs.Promise.{Function, at, Allows, Settles}
+use Rattle.uslp_demands.specs.Promise.{Function, function, at, Allows, Settles}
 use Rattle.uslp_demands.proofs.Alike.{alike}
 
 -- the functions, each with its promise
 abbrev fn-decimal-len : Function
-fn-decimal-len = record { lifetimes = _; params = text.decimal_len.Kinds.ps; result = text.decimal_len.Kinds.r; asks = text.decimal_len.Reads.Pre; learnt = text.decimal_len.Reads.Learnt }
+fn-decimal-len = function text.decimal_len.Kinds.ps text.decimal_len.Kinds.r text.decimal_len.Reads.Pre text.decimal_len.Reads.Learnt
 
 abbrev fn-put-decimal : Function
-fn-put-decimal = record { lifetimes = _; params = text.put_decimal.Kinds.ps; result = text.put_decimal.Kinds.r; asks = text.put_decimal.Reads.Pre; learnt = text.put_decimal.Reads.Learnt }
+fn-put-decimal = function text.put_decimal.Kinds.ps text.put_decimal.Kinds.r text.put_decimal.Reads.Pre text.put_decimal.Reads.Learnt
 
 abbrev fn-put-text : Function
-fn-put-text = record { lifetimes = _; params = text.put_text.Kinds.ps; result = text.put_text.Kinds.r; asks = text.put_text.Reads.Pre; learnt = text.put_text.Reads.Learnt }
+fn-put-text = function text.put_text.Kinds.ps text.put_text.Kinds.r text.put_text.Reads.Pre text.put_text.Reads.Learnt
 
 abbrev fn-put-number : Function
-fn-put-number = record { lifetimes = _; params = text.put_number.Kinds.ps; result = text.put_number.Kinds.r; asks = text.put_number.Reads.Pre; learnt = text.put_number.Reads.Learnt }
+fn-put-number = function text.put_number.Kinds.ps text.put_number.Kinds.r text.put_number.Reads.Pre text.put_number.Reads.Learnt
 
 pub decimal-len-settles : Settles fn-decimal-len
 decimal-len-settles = record { total = λ κs a. tt; same = λ κs a x y s t. alike (s ∙ sym t) refl }

@@ -18,31 +18,45 @@ use Rattle.uslp_writer.specs.declared.TransferFrameCreatorWithReservedData.{Tra
 use Rattle.uslp_writer.specs.declared.ReservedAnswer.the-variants as reserved-answer
 use Rattle.uslp_writer.proofs.Paths.{reserved-back}
 use Rattle.uslp_writer.proofs as frame
-use Rattle.uslp_demands.specs.Promise.{Function, at, Allows, Settles, Shows}
+use Rattle.uslp_demands.specs.Promise.{Function, function, at, Allows, Settles, Shows}
 use Rattle.uslp_roundtrip.specs.Samples.{plain, unflagged, zeros}
 use Rattle.uslp_demands.proofs.Alike.{alike}
 
 -- the functions, each with its promise
 abbrev fn-len-written : Function
-fn-len-written = record { lifetimes = _; params = frame.TransferFrameCreator.len_written.Kinds.ps; result = frame.TransferFrameCreator.len_written.Kinds.r; asks = frame.TransferFrameCreator.len_written.Reads.Pre; learnt = frame.TransferFrameCreator.len_written.Reads.Learnt }
+fn-len-written =
+    function frame.TransferFrameCreator.len_written.Kinds.ps frame.TransferFrameCreator.len_written.Kinds.r
+    frame.TransferFrameCreator.len_written.Reads.Pre frame.TransferFrameCreator.len_written.Reads.Learnt
 
 abbrev fn-write-to-slice : Function
-fn-write-to-slice = record { lifetimes = _; params = frame.TransferFrameCreator.write_to_slice.Kinds.ps; result = frame.TransferFrameCreator.write_to_slice.Kinds.r; asks = frame.TransferFrameCreator.write_to_slice.Reads.Pre; learnt = frame.TransferFrameCreator.write_to_slice.Reads.Learnt }
+fn-write-to-slice =
+    function frame.TransferFrameCreator.write_to_slice.Kinds.ps frame.TransferFrameCreator.write_to_slice.Kinds.r
+    frame.TransferFrameCreator.write_to_slice.Reads.Pre frame.TransferFrameCreator.write_to_slice.Reads.Learnt
 
 abbrev fn-new : Function
-fn-new = record { lifetimes = _; params = frame.TransferFrameCreatorWithReservedData.new.Kinds.ps; result = frame.TransferFrameCreatorWithReservedData.new.Kinds.r; asks = frame.TransferFrameCreatorWithReservedData.new.Reads.Pre; learnt = frame.TransferFrameCreatorWithReservedData.new.Reads.Learnt }
+fn-new =
+    function frame.TransferFrameCreatorWithReservedData.new.Kinds.ps frame.TransferFrameCreatorWithReservedData.new.Kinds.r
+    frame.TransferFrameCreatorWithReservedData.new.Reads.Pre frame.TransferFrameCreatorWithReservedData.new.Reads.Learnt
 
 abbrev fn-transfer-frame-creator-with-reserved-data-len-written : Function
-fn-transfer-frame-creator-with-reserved-data-len-written = record { lifetimes = _; params = frame.TransferFrameCreatorWithReservedData.len_written.Kinds.ps; result = frame.TransferFrameCreatorWithReservedData.len_written.Kinds.r; asks = frame.TransferFrameCreatorWithReservedData.len_written.Reads.Pre; learnt = frame.TransferFrameCreatorWithReservedData.len_written.Reads.Learnt }
+fn-transfer-frame-creator-with-reserved-data-len-written =
+    function frame.TransferFrameCreatorWithReservedData.len_written.Kinds.ps frame.TransferFrameCreatorWithReservedData.len_written.Kinds.r
+    frame.TransferFrameCreatorWithReservedData.len_written.Reads.Pre frame.TransferFrameCreatorWithReservedData.len_written.Reads.Learnt
 
 abbrev fn-data : Function
-fn-data = record { lifetimes = _; params = frame.TransferFrameCreatorWithReservedData.data.Kinds.ps; result = frame.TransferFrameCreatorWithReservedData.data.Kinds.r; asks = frame.TransferFrameCreatorWithReservedData.data.Reads.Pre; learnt = frame.TransferFrameCreatorWithReservedData.data.Reads.Learnt }
+fn-data =
+    function frame.TransferFrameCreatorWithReservedData.data.Kinds.ps frame.TransferFrameCreatorWithReservedData.data.Kinds.r
+    frame.TransferFrameCreatorWithReservedData.data.Reads.Pre frame.TransferFrameCreatorWithReservedData.data.Reads.Learnt
 
 abbrev fn-data-mut : Function
-fn-data-mut = record { lifetimes = _; params = frame.TransferFrameCreatorWithReservedData.data_mut.Kinds.ps; result = frame.TransferFrameCreatorWithReservedData.data_mut.Kinds.r; asks = frame.TransferFrameCreatorWithReservedData.data_mut.Reads.Pre; learnt = frame.TransferFrameCreatorWithReservedData.data_mut.Reads.Learnt }
+fn-data-mut =
+    function frame.TransferFrameCreatorWithReservedData.data_mut.Kinds.ps frame.TransferFrameCreatorWithReservedData.data_mut.Kinds.r
+    frame.TransferFrameCreatorWithReservedData.data_mut.Reads.Pre frame.TransferFrameCreatorWithReservedData.data_mut.Reads.Learnt
 
 abbrev fn-finish : Function
-fn-finish = record { lifetimes = _; params = frame.TransferFrameCreatorWithReservedData.finish.Kinds.ps; result = frame.TransferFrameCreatorWithReservedData.finish.Kinds.r; asks = frame.TransferFrameCreatorWithReservedData.finish.Reads.Pre; learnt = frame.TransferFrameCreatorWithReservedData.finish.Reads.Learnt }
+fn-finish =
+    function frame.TransferFrameCreatorWithReservedData.finish.Kinds.ps frame.TransferFrameCreatorWithReservedData.finish.Kinds.r
+    frame.TransferFrameCreatorWithReservedData.finish.Reads.Pre frame.TransferFrameCreatorWithReservedData.finish.Reads.Learnt
 
 -- four numbers that no call made: an area behind the total, and sizes whose sum no machine number holds
 abbrev small : TransferFrameCreatorWithReservedData

@@ -26,17 +26,21 @@ use Rattle.uslp_roundtrip.proofs.Demand.{reads, writes}
 use Rattle.uslp_counting.specs.History as histories
 use Rattle.uslp_counting.specs.Demand.{Demand3}
 use Rattle.uslp_counting.proofs.Theorem.{counted}
-use Rattle.uslp_demands.specs.Promise.{Function, at, Program, Keeps}
+use Rattle.uslp_demands.specs.Promise.{Function, function, at, Program, Keeps}
 
 -- the functions, each with its promise
 abbrev fn-from-bytes : Function
-fn-from-bytes = record { lifetimes = _; params = reader.TransferFrame.from_bytes.Kinds.ps; result = reader.TransferFrame.from_bytes.Kinds.r; asks = reader.TransferFrame.from_bytes.Reads.Pre; learnt = reader.TransferFrame.from_bytes.Reads.Learnt }
+fn-from-bytes =
+    function reader.TransferFrame.from_bytes.Kinds.ps reader.TransferFrame.from_bytes.Kinds.r
+    reader.TransferFrame.from_bytes.Reads.Pre reader.TransferFrame.from_bytes.Reads.Learnt
 
 abbrev fn-write-to-slice : Function
-fn-write-to-slice = record { lifetimes = _; params = frame.TransferFrameCreator.write_to_slice.Kinds.ps; result = frame.TransferFrameCreator.write_to_slice.Kinds.r; asks = frame.TransferFrameCreator.write_to_slice.Reads.Pre; learnt = frame.TransferFrameCreator.write_to_slice.Reads.Learnt }
+fn-write-to-slice =
+    function frame.TransferFrameCreator.write_to_slice.Kinds.ps frame.TransferFrameCreator.write_to_slice.Kinds.r
+    frame.TransferFrameCreator.write_to_slice.Reads.Pre frame.TransferFrameCreator.write_to_slice.Reads.Learnt
 
 abbrev fn-hear : Function
-fn-hear = record { lifetimes = _; params = channel-proofs.hear.Kinds.ps; result = channel-proofs.hear.Kinds.r; asks = channel-proofs.hear.Reads.Pre; learnt = channel-proofs.hear.Reads.Learnt }
+fn-hear = function channel-proofs.hear.Kinds.ps channel-proofs.hear.Kinds.r channel-proofs.hear.Reads.Pre channel-proofs.hear.Reads.Learnt
 
 -- what a program does, as the demands see it
 abbrev pub readerOf : Program fn-from-bytes → frames.Reader

@@ -42,7 +42,11 @@ module _ (T : Ended) where
   abbrev pub Shows : Promise T → ((κs : Lfts (T .signature .lifetimes)) (a : Args (T .signature) κs) → Res (T .signature) κs → List ℕ) → Type 2
   Shows promise shown = AnyTwo promise (λ κs a x y. shown κs a (x .0) ≡ shown κs a (y .0))
 
-  -- the promise allows this outcome of a call with the arguments a at no model
-  pub record ShutsOut (promise : Promise T) (κs : Lfts (T .signature .lifetimes)) (a : Args (T .signature) κs) (x : LeftBy T κs a) : Type 2 where
-    pub never : (M : Type 1) (𝓤 : URA M) (H : Heap 𝓤) (A : Atoms 𝓤) (mem : Memory → SProp 𝓤) (run : Routine → Fun 𝓤) (g : promise M 𝓤 H A mem run κs a .ghost)
-        → ent 𝓤 (promise M 𝓤 H A mem run κs a .ensures g (x .0) (atExit T κs a (x .1))) (fact 𝓤 ⊥)
+  -- where the promise allows this outcome of a call with the arguments a, R holds, at every model
+  pub record Implies (promise : Promise T) (κs : Lfts (T .signature .lifetimes)) (a : Args (T .signature) κs) (x : LeftBy T κs a) (R : Type 0) : Type 2 where
+    pub holds : (M : Type 1) (𝓤 : URA M) (H : Heap 𝓤) (A : Atoms 𝓤) (mem : Memory → SProp 𝓤) (run : Routine → Fun 𝓤) (g : promise M 𝓤 H A mem run κs a .ghost)
+        → ent 𝓤 (promise M 𝓤 H A mem run κs a .ensures g (x .0) (atExit T κs a (x .1))) (fact 𝓤 R)
+
+  -- the promise allows it at no model
+  abbrev pub ShutsOut : (promise : Promise T) (κs : Lfts (T .signature .lifetimes)) (a : Args (T .signature) κs) → LeftBy T κs a → Type 2
+  ShutsOut promise κs a x = Implies promise κs a x ⊥

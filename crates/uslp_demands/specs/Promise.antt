@@ -26,6 +26,9 @@ pub record Function : Type 3 where
   pub asks : In lifetimes params
   pub learnt : Out lifetimes params result
 
+abbrev pub function : {n : ℕ} (ps : List (PK n)) (r : RK n) → In n ps → Out n ps r → Function
+function {n} ps r pre post = record { lifetimes = n; params = ps; result = r; asks = pre; learnt = post }
+
 module _ (F : Function) where
   abbrev pub Left : (κs : Lfts (F .lifetimes)) → Dens κs (F .params) → Type 0
   Left = LeftBy (endedOf (F .lifetimes) (F .params) (F .result))
