@@ -60,10 +60,6 @@ abbrev pub paperDone : DoneAnswer → Outcome (Unit {0})
 paperDone done-answer.Done = done tt
 paperDone (done-answer.Refused r) = refusal r
 
-abbrev pub paperDone : DoneAnswer → Outcome (Unit {0})
-paperDone done-answer.Done = done tt
-paperDone (done-answer.Refused r) = refusal r
-
 abbrev pub paperLength : LengthAnswer → Outcome ℕ
 paperLength (length-answer.Done n) = done n
 paperLength (length-answer.Refused r) = refusal r
