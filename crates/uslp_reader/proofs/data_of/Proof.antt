@@ -1,47 +1,37 @@
--- `data_of` meets its contract: each arm is one case of `contentsRead`.
--- Assumes nothing.
-use mathlib.Core.Path.{ap, sym, _∙_}
-use Rattle.uslp_reader.specs.Reader.{paperFrame, contentsRead}
+-- `data_of` meets its contract: each arm is one case of `contentsReadAt` and of `contentsRead`.
+use mathlib.Core.Path.{_≡_, refl}
+use Prim.Native.Nat.{ℕ}
+use mathlib.Core.List.{List}
+use denote.Ref.{RefT, now}
+use Rattle.uslp_octets.specs.Octets.{PartOf}
+use Rattle.uslp_reader.specs.Reader.{paperFrame, contentsRead, contentsReadAt}
 use Rattle.uslp_reader.specs.declared.FrameAnswer.{FrameAnswer}
 use borrow.Author.Needs.{needs}
 use Rattle.uslp_reader.proofs.data_of.Statement.{statement}
 use Rattle.uslp_reader.proofs.data_of.Tie as tie
 
-enum-known-answer : tie.Need-enum-known-answer
-enum-known-answer c = search needs
+-- the part that an answer shows
+abbrev Shown : RefT (List ℕ) → FrameAnswer → RefT (List ℕ) → Type 0
+Shown lent a = PartOf lent (contentsReadAt (paperFrame a) (now lent)) (contentsRead (paperFrame a) (now lent))
 
-data-requires : tie.Need-data-requires
-data-requires c κs = search needs
-
-enum-told : tie.Need-enum-told
-enum-told c = search needs
-
-sub-result : tie.Need-sub-result
-sub-result c = search needs
-
-part-result-start : tie.Need-part-result-start
-part-result-start c = search needs
-
-part-result-end : tie.Need-part-result-end
-part-result-end c = search needs
+told : {lent part : RefT (List ℕ)} {a b : FrameAnswer} → a ≡ b → Shown lent b part → Shown lent a part
+told e w = rw e w
 
 returns : tie.Need-returns
-returns c =
-    let s = c .before .before .before .before .before .args .buf .now in
-    c .«data» .ensures ∙ ap (λ (a : FrameAnswer). contentsRead (paperFrame a) s) (sym (c .before .before .answer .given .1))
+returns c = told (c .before .before .answer .given .1) (c .«data» .ensures)
 
 returns-2 : tie.Need-returns-2
-returns-2 c = search needs
+returns-2 c = told (c .before .enum-told .given .1) (record { lies = refl; shows = refl })
 
 pub data-of-spec : {M : Type 1} → statement M
 data-of-spec =
     tie.close
     (tie.spec
-    enum-known-answer
-    data-requires
-    enum-told
-    sub-result
-    part-result-start
-    part-result-end
+    (λ c. search needs)
+    (λ c κs. search needs)
+    (λ c. search needs)
+    (λ c. search needs)
+    (λ c. search needs)
+    (λ c. search needs)
     returns
     returns-2)
