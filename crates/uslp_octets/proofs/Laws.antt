@@ -11,8 +11,7 @@ use lib.Arith.{digits-lt}
 use lib.Dec.{lit<}
 use lib.ListN.{length, take, drop, getD, set, length-drop, List·getD-append}
 use lib.Seq.{getD-append-add, getD-drop, getD-take, take-suc, append-snoc, set-at, length-take-le, take-length}
-use denote.Ref.{RefT}
-use Rattle.uslp_octets.specs.Octets.{AreOctets, Field, bitsIn, valueOf, Fits, split, octets, pack, unpack, word, PartOf}
+use Rattle.uslp_octets.specs.Octets.{AreOctets, Field, bitsIn, valueOf, Fits, split, octets, pack, unpack, word}
 
 pub pow-eight : (w : ℕ) → 2 ^ (8 * w) ≡ 256 ^ w
 pow-eight zero = refl
@@ -205,7 +204,3 @@ rest-less b n i v h k =
 
 pub rest-all : (b n v : ℕ) → v ≡ v / b ^ (n - n)
 rest-all b n v = let z : 0 ≡ n - n = omega arith in sym (div-one v) ∙ ap (λ (p : ℕ). v / p) (sym (pow-zero b)) ∙ ap (λ (k : ℕ). v / b ^ k) z
-
--- a part, by other names for its start and for what it shows
-pub part-as : {lent part : RefT (List ℕ)} {i j : ℕ} {s t : List ℕ} → i ≡ j → s ≡ t → PartOf lent i s part → PartOf lent j t part
-part-as {lent} p q w = record { lies = w .lies ∙ ap (λ (k : ℕ). (lent .ptr .0, k + lent .ptr .1)) p; shows = w .shows ∙ q }

@@ -1,4 +1,4 @@
--- What `frameReading`, `contentsIn` and `contentsAt` say, path by path.
+-- What `frameReading` says, path by path, and `contentsIn` where the data are there.
 use mathlib.Core.Path.{_≡_, refl, ap, ap₂, sym, _∙_}
 use Prim.Native.Nat.{ℕ, _+_, _-_, _<_, _≤_}
 use mathlib.Core.Bool.{Bool, true, false, not, _&&_}
@@ -14,7 +14,7 @@ use Rattle.uslp_primary_header.specs.declared.PrimaryHeader.{PrimaryHeader}
 use Rattle.uslp_data_field_header.specs.Field.{fieldReading}
 use Rattle.uslp_data_field_header.specs.declared.TransferFrameDataFieldHeader.{TransferFrameDataFieldHeader}
 use Rattle.uslp_layout.specs.Layout.{needed}
-use Rattle.uslp_reader.specs.Reader.{frameWith, bodyReading, frameReading, contentsIn, contentsAt}
+use Rattle.uslp_reader.specs.Reader.{frameWith, bodyReading, frameReading, contentsIn}
 use Rattle.uslp_reader.specs.declared.TransferFrame.{TransferFrame}
 
 -- the test of the checksum: it refuses where it is asked for and not 0, and passes elsewhere
@@ -60,17 +60,5 @@ module _ (s : List ℕ) (fecf : Bool) where
             pub reading-frame : {x : TransferFrame} {m n : ℕ} → m ≡ lenFrame h → n ≡ needed h f fecf → x ≡ frameWith h f (m - n) s → frameReading s fecf ≡ done x
             reading-frame p q e = reading-done ∙ ap done (sym (e ∙ ap₂ (λ (a b : ℕ). frameWith h f (a - b) s) p q))
 
-module _ (x : TransferFrame) (s : List ℕ) where
-  module _ (h : length s < x .«data_start» + x .«data_len») where
-    pub at-none : contentsAt x s ≡ 0
-    at-none = simp (lt-leb _ _ h)
-
-    pub contents-none : contentsIn x s ≡ []
-    contents-none = simp (lt-leb _ _ h)
-
-  module _ (h : x .«data_start» + x .«data_len» ≤ length s) where
-    pub at-there : contentsAt x s ≡ x .«data_start»
-    at-there = simp (le-leb _ _ h)
-
-    pub contents-there : contentsIn x s ≡ take (x .«data_len») (drop (x .«data_start») s)
-    contents-there = simp (le-leb _ _ h)
+pub contents-there : (x : TransferFrame) (s : List ℕ) → x .«data_start» + x .«data_len» ≤ length s → contentsIn x s ≡ take (x .«data_len») (drop (x .«data_start») s)
+contents-there x s h = simp (le-leb _ _ h)
