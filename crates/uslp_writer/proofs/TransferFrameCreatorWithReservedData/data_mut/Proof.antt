@@ -2,6 +2,7 @@
 use mathlib.Core.Path.{_≡_, refl, ap, sym, _∙_}
 use Prim.Native.Nat.{_+_, _-_}
 use native.Mathlib.Omega.{arith}
+use native.Mathlib.Nat.{sub-self}
 use lib.ListN.{length}
 use Rattle.uslp_kinds.specs.Answers.{paperLength}
 use Rattle.uslp_kinds.specs.declared.LengthAnswer.{LengthAnswer}
@@ -22,8 +23,9 @@ add-end c = omega (arith, area-room _ _ (given (c .before .before .before) (c .b
 part-buf-end-2 : tie.Need-part-buf-end-2
 part-buf-end-2 c = omega (arith, area-room _ _ (given (c .before .before .before) (c .before .enum-told2 .given .1)))
 
+-- an empty part shows nothing wherever it lies
 returns : tie.Need-returns
-returns c = rw (given (c .before .before .before) (c .before .enum-told .given .1)) (record { lies = refl; shows = refl })
+returns c = rw (given (c .before .before .before) (c .before .enum-told .given .1)) (record { lies = refl; shows = search sub-self })
 
 returns-2 : tie.Need-returns-2
 returns-2 c =
