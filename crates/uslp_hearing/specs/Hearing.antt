@@ -5,7 +5,7 @@ use mathlib.Core.List.{List, []}
 use Rattle.uslp_kinds.specs.Outcome.{Outcome, done, refused, andThen}
 use Rattle.uslp_kinds.specs.Answers.{refusal}
 use Rattle.uslp_primary_header.specs.declared.PrimaryHeader.{PrimaryHeader}
-use Rattle.uslp_reader.specs.Reader.{frameReading, contentsIn}
+use Rattle.uslp_reader.specs.Reader.{frameReading, contentsIn, contentsAt}
 use Rattle.uslp_reader.specs.declared.TransferFrame.{TransferFrame}
 use Rattle.uslp_record.specs.Record.{Kept}
 use Rattle.uslp_record.specs.Judging.{judging, taken}
@@ -63,3 +63,10 @@ handedOn (done (New gap x)) s = contentsIn x s
 handedOn (done Repeat) s = []
 handedOn (done Late) s = []
 handedOn (refused k vs) s = []
+
+-- where that part starts in them; an empty one at the front
+abbrev pub handedAt : Outcome FrameArrival → List ℕ → ℕ
+handedAt (done (New gap x)) s = contentsAt x s
+handedAt (done Repeat) s = 0
+handedAt (done Late) s = 0
+handedAt (refused k vs) s = 0

@@ -9,8 +9,9 @@ use uslp_record::Channel;
 use uslp_record::ChannelRecord;
 use uslp_record::CountAnswer;
 ghost use mathlib.Core.Path.{_≡_};
+ghost use Rattle.uslp_octets.specs.Octets.{PartOf};
 ghost use Rattle.uslp_record.specs.Record.{keeping};
-ghost use Rattle.uslp_hearing.specs.Hearing.{channelOf, paperHear, paperJudge, frameArrival, judgedFrame, frameJudging, frameHearing, handedOn};
+ghost use Rattle.uslp_hearing.specs.Hearing.{channelOf, paperHear, paperJudge, frameArrival, judgedFrame, frameJudging, frameHearing, handedOn, handedAt};
 
 // What hearing a frame finds: NEW, with the frame and how many are missing before it, or nothing to hand on.
 pub enum FrameArrival {
@@ -67,7 +68,7 @@ pub fn judge(channels: ChannelRecord, buf: &[u8], has_fecf: bool) -> JudgeAnswer
 
 // The data that a hearing hands on: a part of the lent octets, nothing unless the frame is NEW.
 pub fn handed_on(answer: HearAnswer, buf: &[u8]) -> &[u8]
-    ensures { λ r. ⌜ now r ≡ handedOn (paperHear answer) (now (buf .entry)) ⌝ }
+    ensures { λ r. ⌜ PartOf (buf .entry) (handedAt (paperHear answer) (now (buf .entry))) (handedOn (paperHear answer) (now (buf .entry))) r ⌝ }
 {
     match answer {
         HearAnswer::Done(arrival) => match arrival {

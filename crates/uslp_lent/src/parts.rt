@@ -9,10 +9,11 @@ use uslp_primary_header::HeaderAnswer;
 use uslp_reader::FrameAnswer;
 use uslp_reader::TransferFrame;
 ghost use mathlib.Core.Path.{_≡_};
+ghost use Rattle.uslp_octets.specs.Octets.{PartOf};
 ghost use Rattle.uslp_kinds.specs.Answers.{paperLength};
 ghost use Rattle.uslp_primary_header.specs.Header.{paperHeader, lenFrame};
 ghost use Rattle.uslp_data_field_header.specs.Field.{paperField};
-ghost use Rattle.uslp_reader.specs.Reader.{paperFrame, frameReading, contentsRead};
+ghost use Rattle.uslp_reader.specs.Reader.{paperFrame, frameReading, contentsRead, contentsReadAt};
 ghost use Rattle.uslp_lent.specs.Kept.{ofFrame, paperId, paperRole, paperOcf};
 
 pub fn find(buf: &[u8], has_fecf: bool) -> FrameFound
@@ -36,7 +37,7 @@ pub fn raw_frame(raw: &[u8], found: FrameFound) -> &[u8]
 }
 
 pub fn data(raw: &[u8], found: FrameFound) -> &[u8]
-    ensures { λ r. ⌜ now r ≡ contentsRead (paperFrame (found .answer)) (now (raw .entry)) ⌝ }
+    ensures { λ r. ⌜ PartOf (raw .entry) (contentsReadAt (paperFrame (found .answer)) (now (raw .entry))) (contentsRead (paperFrame (found .answer)) (now (raw .entry))) r ⌝ }
 {
     let answer = found.answer;
     uslp_reader::data_of(answer, raw)

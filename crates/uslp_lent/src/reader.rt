@@ -9,10 +9,11 @@ use uslp_primary_header::HeaderAnswer;
 use uslp_reader::FrameAnswer;
 ghost use mathlib.Core.Path.{_≡_};
 ghost use lib.ListN.{length};
+ghost use Rattle.uslp_octets.specs.Octets.{PartOf};
 ghost use Rattle.uslp_kinds.specs.Answers.{paperLength};
 ghost use Rattle.uslp_primary_header.specs.Header.{paperHeader, lenFrame};
 ghost use Rattle.uslp_data_field_header.specs.Field.{paperField};
-ghost use Rattle.uslp_reader.specs.Reader.{paperFrame, frameReading, contentsRead};
+ghost use Rattle.uslp_reader.specs.Reader.{paperFrame, frameReading, contentsRead, contentsReadAt};
 ghost use Rattle.uslp_lent.specs.Kept.{ofFrame, paperId, paperRole, paperOcf};
 
 // The frame that was read, or why it was refused: plain, so that it can stand beside the octets.
@@ -69,7 +70,7 @@ impl<'a> TransferFrameReader<'a> {
 
     // The data as a part of the lent buffer; nothing on a refusal.
     pub fn data(self) -> &'a [u8]
-        ensures { λ r. ⌜ now r ≡ contentsRead (paperFrame (self .entry .found .answer)) (now (self .entry .raw)) ⌝ }
+        ensures { λ r. ⌜ PartOf (self .entry .raw) (contentsReadAt (paperFrame (self .entry .found .answer)) (now (self .entry .raw))) (contentsRead (paperFrame (self .entry .found .answer)) (now (self .entry .raw))) r ⌝ }
     {
         parts::data(self.raw, self.found)
     }
@@ -125,7 +126,7 @@ impl<'a> TransferFrameReader<'a> {
 
 // Plain parameters and a plain result: whoever calls this needs no walk.
 pub fn frame_data<'a>(buf: &'a [u8], has_fecf: bool) -> &'a [u8]
-    ensures { λ r. ⌜ now r ≡ contentsRead (frameReading (now (buf .entry)) «has_fecf») (now (buf .entry)) ⌝ }
+    ensures { λ r. ⌜ PartOf (buf .entry) (contentsReadAt (frameReading (now (buf .entry)) «has_fecf») (now (buf .entry))) (contentsRead (frameReading (now (buf .entry)) «has_fecf») (now (buf .entry))) r ⌝ }
 {
     TransferFrameReader::from_bytes(buf, has_fecf).data()
 }

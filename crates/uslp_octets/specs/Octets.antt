@@ -2,9 +2,11 @@
 use Prim.Native.Nat.{ℕ, zero, suc, _+_, _*_, _/_, _%_, _^_, _<_}
 use mathlib.Core.List.{List, [], _∷_, _++_}
 use mathlib.Core.Bool.{cond}
+use mathlib.Core.Path.{_≡_}
 use Prim.Native.String.{String}
 use lib.ListN.{length, take, drop, getD}
 use lib.Text.{eqt}
+use denote.Ref.{RefT, now}
 
 -- each element is an octet
 abbrev pub AreOctets : List ℕ → Type 0
@@ -58,3 +60,8 @@ named name (f ∷ fs) = cond (eqt name (f .0)) (f .2) (named name fs)
 -- the octets t with s laid over them from the front, as far as both reach
 abbrev pub overlaid : List ℕ → List ℕ → List ℕ
 overlaid s t = take (length t) s ++ drop (length s) t
+
+-- a part of lent octets: where it starts in them, and what it shows
+pub record PartOf (lent : RefT (List ℕ)) (start : ℕ) (shown : List ℕ) (part : RefT (List ℕ)) : Type 0 where
+  pub lies : part .ptr ≡ (lent .ptr .0, start + lent .ptr .1)
+  pub shows : now part ≡ shown

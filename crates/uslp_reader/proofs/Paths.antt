@@ -1,5 +1,4 @@
--- What `frameReading` and `contentsIn` say, path by path.
--- Assumes nothing.
+-- What `frameReading` says, path by path, and `contentsIn` where the data are there.
 use mathlib.Core.Path.{_≡_, refl, ap, ap₂, sym, _∙_}
 use Prim.Native.Nat.{ℕ, _+_, _-_, _<_, _≤_}
 use mathlib.Core.Bool.{Bool, true, false, not, _&&_}
@@ -61,9 +60,5 @@ module _ (s : List ℕ) (fecf : Bool) where
             pub reading-frame : {x : TransferFrame} {m n : ℕ} → m ≡ lenFrame h → n ≡ needed h f fecf → x ≡ frameWith h f (m - n) s → frameReading s fecf ≡ done x
             reading-frame p q e = reading-done ∙ ap done (sym (e ∙ ap₂ (λ (a b : ℕ). frameWith h f (a - b) s) p q))
 
-module _ (x : TransferFrame) (s : List ℕ) where
-  pub contents-none : length s < x .«data_start» + x .«data_len» → contentsIn x s ≡ []
-  contents-none h = simp (lt-leb _ _ h)
-
-  pub contents-there : x .«data_start» + x .«data_len» ≤ length s → contentsIn x s ≡ take (x .«data_len») (drop (x .«data_start») s)
-  contents-there h = simp (le-leb _ _ h)
+pub contents-there : (x : TransferFrame) (s : List ℕ) → x .«data_start» + x .«data_len» ≤ length s → contentsIn x s ≡ take (x .«data_len») (drop (x .«data_start») s)
+contents-there x s h = simp (le-leb _ _ h)

@@ -61,7 +61,15 @@ frameReading s fecf =
 abbrev pub contentsIn : TransferFrame → List ℕ → List ℕ
 contentsIn x s = cond (leb (x .«data_start» + x .«data_len») (length s)) (take (x .«data_len») (drop (x .«data_start») s)) []
 
+-- where that part starts in the octets: where the data do, and at the front where it is empty for want of octets
+abbrev pub contentsAt : TransferFrame → List ℕ → ℕ
+contentsAt x s = cond (leb (x .«data_start» + x .«data_len») (length s)) (x .«data_start») 0
+
 -- and nothing on a refusal
 abbrev pub contentsRead : Outcome TransferFrame → List ℕ → List ℕ
 contentsRead (done x) s = contentsIn x s
 contentsRead (refused k vs) s = []
+
+abbrev pub contentsReadAt : Outcome TransferFrame → List ℕ → ℕ
+contentsReadAt (done x) s = contentsAt x s
+contentsReadAt (refused k vs) s = 0

@@ -13,10 +13,11 @@ ghost use mathlib.Core.Path.{_≡_};
 ghost use Prim.Native.Nat.{_+_, _≤_};
 ghost use mathlib.Core.Bool.{cond};
 ghost use lib.ListN.{length, drop};
+ghost use Rattle.uslp_octets.specs.Octets.{PartOf};
 ghost use Rattle.uslp_kinds.specs.Outcome.{done};
 ghost use Rattle.uslp_primary_header.specs.Header.{lenHeader, lenFrame, headerReading};
 ghost use Rattle.uslp_data_field_header.specs.Field.{fieldReading};
-ghost use Rattle.uslp_reader.specs.Reader.{paperFrame, ocfAt, frameWith, frameReading, contentsIn, contentsRead};
+ghost use Rattle.uslp_reader.specs.Reader.{paperFrame, ocfAt, frameWith, frameReading, contentsIn, contentsAt, contentsRead, contentsReadAt};
 ghost use Rattle.uslp_layout.specs.Layout.{dataStart};
 
 // What a frame says, and where its data stand in the octets that it was read from.
@@ -107,7 +108,7 @@ impl TransferFrame {
 
     // The data as a part of the octets that the frame was read from; nothing where they do not reach so far.
     pub fn data(self, buf: &[u8]) -> &[u8]
-        ensures { λ r. ⌜ now r ≡ contentsIn self (now (buf .entry)) ⌝ }
+        ensures { λ r. ⌜ PartOf (buf .entry) (contentsAt self (now (buf .entry))) (contentsIn self (now (buf .entry))) r ⌝ }
     {
         let start = self.data_start;
         let len = self.data_len;
@@ -125,7 +126,7 @@ impl TransferFrame {
 
 // The data that an answer shows: nothing on a refusal.
 pub fn data_of(answer: FrameAnswer, buf: &[u8]) -> &[u8]
-    ensures { λ r. ⌜ now r ≡ contentsRead (paperFrame answer) (now (buf .entry)) ⌝ }
+    ensures { λ r. ⌜ PartOf (buf .entry) (contentsReadAt (paperFrame answer) (now (buf .entry))) (contentsRead (paperFrame answer) (now (buf .entry))) r ⌝ }
 {
     match answer {
         FrameAnswer::Done(frame) => frame.data(buf),

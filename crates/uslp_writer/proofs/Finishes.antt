@@ -1,17 +1,18 @@
--- What finishing says, path by path: the length, the octets that are left, and the data area.
--- Assumes nothing.
-use mathlib.Core.Path.{_≡_, ap}
-use Prim.Native.Nat.{ℕ, _+_, _-_, _<_, _≤_}
+-- What finishing and filling say, path by path: the length, and the octets that are left.
+use mathlib.Core.Path.{_≡_, ap, sym}
+use Prim.Native.Nat.{ℕ, _+_, _-_, _<_, _≤_, min}
 use mathlib.Core.Bool.{Bool, true, false, cond, _||_}
 use mathlib.Core.List.{List, [], _∷_, _++_}
 use native.Mathlib.Omega.{arith}
 use lib.Dec.{ltb}
 use lib.ListN.{length, take, drop}
 use borrow.Author.Tests.{lt-ltb, le-ltb, ltb-false}
+use borrow.Rule.Slice.PartMut.{putMid, midOf, post-is}
+use Rattle.uslp_octets.specs.Octets.{overlaid}
 use Rattle.uslp_kinds.specs.Outcome.{done, refused, leaving}
 use Rattle.uslp_kinds.proofs.Outcomes.{done-one, passed}
 use Rattle.uslp_layout.specs.Layout.{withFecf}
-use Rattle.uslp_writer.specs.Reserved.{claimed, finishLength, finishing, areaIn}
+use Rattle.uslp_writer.specs.Reserved.{claimed, finishLength, finishing, filled, filling}
 use Rattle.uslp_writer.specs.declared.TransferFrameCreatorWithReservedData.{TransferFrameCreatorWithReservedData}
 
 module _ (k : TransferFrameCreatorWithReservedData) (found : ℕ) where
@@ -62,15 +63,6 @@ area-room k found e =
     omega (arith, w .0, w .1)
 
 module _ (k : TransferFrameCreatorWithReservedData) (s : List ℕ) where
-  pub area-refused : {n : ℕ} {vs : List ℕ} → finishLength k (length s) ≡ refused n vs → areaIn k s ≡ []
-  area-refused e = rw e
-
-  pub area-done : {m : ℕ} → finishLength k (length s) ≡ done m
-      → areaIn k s ≡ take (k .«data_index» + k .«data_size» - k .«data_index») (drop (k .«data_index») s)
-  area-done e =
-      let size : k .«data_index» + k .«data_size» - k .«data_index» ≡ k .«data_size» = omega arith in
-      rw (e, size)
-
   pub finishing-refused : {n : ℕ} {vs : List ℕ} → finishLength k (length s) ≡ refused n vs → finishing k s ≡ leaving (refused n vs) s
   finishing-refused e = rw e
 
@@ -81,3 +73,20 @@ module _ (k : TransferFrameCreatorWithReservedData) (s : List ℕ) where
 
     pub finishing-plain : k .«has_fecf» ≡ false → finishing k s ≡ leaving (done m) s
     finishing-plain h = rw (e, h)
+
+  module _ (d : List ℕ) where
+    pub filling-refused : {n : ℕ} {vs : List ℕ} → finishLength k (length s) ≡ refused n vs → filling k d s ≡ leaving (refused n vs) s
+    filling-refused e = rw e
+
+    module _ {m : ℕ} (e : finishLength k (length s) ≡ done m) where
+      pub filling-done : filling k d s ≡ leaving (done (min (length d) (k .«data_size»))) (filled k (overlaid d (take (k .«data_size») (drop (k .«data_index») s))) s)
+      filling-done = rw e
+
+      -- the part of the buffer that the code lends for copying, put back
+      pub filling-put : {n : ℕ} {ys : List ℕ} → n ≡ min (length d) (k .«data_size»)
+          → ys ≡ overlaid d (midOf (k .«data_index») (k .«data_index» + k .«data_size» - k .«data_index») s)
+          → leaving (done n) (putMid (k .«data_index») (k .«data_index» + k .«data_size» - k .«data_index») s ys) ≡ filling k d s
+      filling-put laid put =
+          let i = k .«data_index» in
+          let size : i + k .«data_size» - i ≡ k .«data_size» = omega arith in
+          rw (laid, put, post-is i (i + k .«data_size») s (omega arith), size) (sym filling-done)

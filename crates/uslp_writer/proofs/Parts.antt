@@ -1,5 +1,4 @@
 -- What stores into parts of a buffer leave, as lists, for any octets.
--- Assumes nothing.
 use mathlib.Core.Path.{_≡_, ap, sym, _∙_}
 use Prim.Native.Nat.{ℕ, _+_, _-_, _≤_}
 use mathlib.Core.Bool.{Bool, true, false, cond}
@@ -18,14 +17,11 @@ pub number-put : (a e n : ℕ) (s ys : List ℕ) → a ≤ e → e ≤ length s 
     → putMid a (e - a) s ys ≡ take a s ++ (octets (e - a) n ++ drop e s)
 number-put a e n s ys h g put = rw (put, mid-len a e s g, post-is a e s h)
 
--- as many octets copied into them
-pub copy-put : (a e : ℕ) (d s ys : List ℕ) → a ≤ e → e ≤ length s → length d ≡ e - a → ys ≡ overlaid d (midOf a (e - a) s)
-    → putMid a (e - a) s ys ≡ take a s ++ (d ++ drop e s)
-copy-put a e d s ys h g ld put =
-    let long : length (midOf a (e - a) s) ≡ length d = mid-len a e s g ∙ sym ld in
-    let none : drop (length d) (midOf a (e - a) s) ≡ [] = drop-of-length-le (midOf a (e - a) s) {i = length d} (omega arith) in
-    let whole : ys ≡ d = put ∙ rw (long, none, append-nil, take-length) in
-    rw (whole, post-is a e s h)
+-- as many octets laid over a part
+pub overlaid-whole : (d t : List ℕ) → length t ≡ length d → overlaid d t ≡ d
+overlaid-whole d t long =
+    let none : drop (length d) t ≡ [] = drop-of-length-le t {i = length d} (omega arith) in
+    rw (long, none, append-nil, take-length)
 
 -- the checksum of the rest put into the last two octets of a total
 pub fecf-put : (total sum : ℕ) (s ys : List ℕ) → 2 ≤ total → total ≤ length s → sum ≡ checksumOf (take (total - 2 - 0) s)

@@ -1,10 +1,11 @@
--- The writer that reserves the data area: what making it and finishing it answer and leave, in the order of document 01.
-use Prim.Native.Nat.{ℕ, _+_, _-_}
+-- The writer that reserves the data area: what making it, filling it and finishing it answer and leave, in the order of document 01.
+use Prim.Native.Nat.{ℕ, _+_, _-_, min}
 use mathlib.Core.Bool.{true, cond, _||_}
 use mathlib.Core.List.{List, [], _∷_, _++_}
 use lib.ListN.{length, take, drop}
 use lib.Dec.{ltb}
-use Rattle.uslp_kinds.specs.Outcome.{Outcome, done, refused, Written, written, firstOf}
+use Rattle.uslp_octets.specs.Octets.{overlaid}
+use Rattle.uslp_kinds.specs.Outcome.{Outcome, done, refused, andThen, Written, leaving, written, firstOf}
 use Rattle.uslp_kinds.specs.Answers.{refusal}
 use Rattle.uslp_layout.specs.Layout.{dataStart, ocfOctets, withFecf}
 use Rattle.uslp_writer.specs.Frame.{total, headerOctets, frameChecks}
@@ -65,14 +66,36 @@ finishing k s =
     (cond (k .«has_fecf») (withFecf true (take (k .«len_written» - 2) s) ++ drop (k .«len_written») s) s)
     s
 
--- the data area, and an empty part where finishing would refuse
-abbrev pub ifDone : Outcome ℕ → List ℕ → List ℕ
-ifDone (done n) s = s
-ifDone (refused k vs) s = []
+abbrev pub ifDone : {A : Type 0} → Outcome ℕ → A → A → A
+ifDone (done n) x y = x
+ifDone (refused k vs) x y = y
 
+-- the data area, and an empty part where finishing would refuse
 abbrev pub areaIn : TransferFrameCreatorWithReservedData → List ℕ → List ℕ
-areaIn k s = ifDone (finishLength k (length s)) (take (k .«data_size») (drop (k .«data_index») s))
+areaIn k s = ifDone (finishLength k (length s)) (take (k .«data_size») (drop (k .«data_index») s)) []
+
+-- where that part starts in the octets: where the data do, and at the front where finishing would refuse
+abbrev pub areaAt : TransferFrameCreatorWithReservedData → List ℕ → ℕ
+areaAt k s = ifDone (finishLength k (length s)) (k .«data_index») 0
 
 -- the octets with these laid into the data area
 abbrev pub filled : TransferFrameCreatorWithReservedData → List ℕ → List ℕ → List ℕ
 filled k d s = take (k .«data_index») s ++ (d ++ drop (k .«data_index» + k .«data_size») s)
+
+-- octets laid over the data area as far as both reach, and how many: refused like finishing, 12, 7, 2
+abbrev pub filling : TransferFrameCreatorWithReservedData → List ℕ → List ℕ → Written ℕ
+filling k d s =
+    written
+    (andThen (finishLength k (length s)) (λ (n : ℕ). done (min (length d) (k .«data_size»))))
+    (filled k (overlaid d (areaIn k s)) s)
+    s
+
+-- a call that writes, then another on what it leaves; a refusal stands
+abbrev pub andOn : {A B : Type 0} → Written A → (A → List ℕ → Written B) → Written B
+andOn (leaving (done x) s) next = next x s
+andOn (leaving (refused k vs) s) next = leaving (refused k vs) s
+
+-- reserving as much as the data need, filling, finishing
+abbrev pub inTurn : TransferFrameCreator → List ℕ → List ℕ → Written ℕ
+inTurn c d s =
+    andOn (reserving c (length d) s) (λ (k : TransferFrameCreatorWithReservedData) (t : List ℕ). andOn (filling k d t) (λ (n : ℕ). finishing k))

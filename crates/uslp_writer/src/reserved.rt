@@ -9,21 +9,23 @@ use uslp_kinds::OperationalControlField;
 use uslp_kinds::Refusal;
 use uslp_layout::data_start;
 use uslp_layout::fecf_len;
+use uslp_octets::copy_octets;
 use uslp_octets::put_number;
 use uslp_primary_header::HeaderAnswer;
 use uslp_primary_header::PrimaryHeader;
 ghost use mathlib.Core.Path.{_≡_};
-ghost use Prim.Native.Nat.{_+_, _-_, _≤_};
+ghost use Prim.Native.Nat.{_+_, _-_, _≤_, min};
 ghost use mathlib.Core.Bool.{true};
 ghost use mathlib.Core.List.{_++_};
 ghost use lib.ListN.{length, take, drop};
+ghost use Rattle.uslp_octets.specs.Octets.{PartOf};
 ghost use Rattle.uslp_kinds.specs.Outcome.{done, leaving};
 ghost use Rattle.uslp_kinds.specs.Answers.{paperLength};
 ghost use Rattle.uslp_primary_header.specs.Header.{headerChecking};
 ghost use Rattle.uslp_data_field_header.specs.Field.{fieldChecking};
 ghost use Rattle.uslp_layout.specs.Layout.{dataStart, ocfOctets, withFecf};
 ghost use Rattle.uslp_writer.specs.Frame.{completed, frameLength, headerOctets};
-ghost use Rattle.uslp_writer.specs.Reserved.{paperReserved, reservation, reservedOctets, reserving, finishLength, finishing, areaIn};
+ghost use Rattle.uslp_writer.specs.Reserved.{paperReserved, reservation, reservedOctets, reserving, finishLength, finishing, areaIn, areaAt, filling};
 
 impl TransferFrameCreatorWithReservedData {
     // Writes the headers and the OCF; the data area and the FECF's places stay as found.
@@ -51,9 +53,10 @@ impl TransferFrameCreatorWithReservedData {
 
     // The data area, or nothing where finishing would refuse.
     pub fn data(self, buf: &[u8]) -> &[u8]
-        ensures { λ r. ⌜ now r ≡ areaIn self (now (buf .entry)) ⌝ }
+        ensures { λ r. ⌜ PartOf (buf .entry) (areaAt self (now (buf .entry))) (areaIn self (now (buf .entry))) r ⌝ }
     {
-        match finish_len(self, buf.len()) {
+        let found = buf.len();
+        match finish_len(self, found) {
             LengthAnswer::Refused(_) => &buf[0..0],
             LengthAnswer::Done(_) => {
                 let start = self.data_index;
@@ -65,14 +68,31 @@ impl TransferFrameCreatorWithReservedData {
 
     // The data area, lent for writing, or nothing where finishing would refuse.
     pub fn data_mut(self, buf: &mut [u8]) -> &mut [u8]
-        ensures { λ r. ⌜ now r ≡ areaIn self (now (buf .entry)) ⌝ }
+        ensures { λ r. ⌜ PartOf (buf .entry) (areaAt self (now (buf .entry))) (areaIn self (now (buf .entry))) r ⌝ }
     {
-        match finish_len(self, buf.len()) {
+        let found = buf.len();
+        match finish_len(self, found) {
             LengthAnswer::Refused(_) => &mut buf[0..0],
             LengthAnswer::Done(_) => {
                 let start = self.data_index;
                 let end = start + self.data_size;
                 &mut buf[start..end]
+            }
+        }
+    }
+
+    // Lays data over the area as far as both reach, and gives how many octets; the rest of the area stays.
+    // Refuses as finishing does: TOO_LONG, FRAME_TOO_SHORT, SHORT_TARGET.
+    pub fn fill(self, data: &[u8], buf: &mut [u8]) -> LengthAnswer
+        ensures { λ r. ⌜ leaving (paperLength r) (now (buf .exit)) ≡ filling self (now («data» .entry)) (now (buf .entry)) ⌝ }
+    {
+        match finish_len(self, buf.len()) {
+            LengthAnswer::Refused(refusal) => LengthAnswer::Refused(refusal),
+            LengthAnswer::Done(_) => {
+                let start = self.data_index;
+                let end = start + self.data_size;
+                copy_octets(data, &mut buf[start..end]);
+                LengthAnswer::Done(lesser(data.len(), self.data_size))
             }
         }
     }
@@ -92,6 +112,12 @@ impl TransferFrameCreatorWithReservedData {
             }
         }
     }
+}
+
+fn lesser(a: usize, b: usize) -> usize
+    ensures { λ r. ⌜ r ≡ min a b ⌝ }
+{
+    if a < b { a } else { b }
 }
 
 // The total that finishing gives for a buffer of this length.

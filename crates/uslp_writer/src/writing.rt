@@ -1,9 +1,8 @@
-// The frame writer: reserve, copy the data, finish.
+// The frame writer: reserve, fill, finish.
 use crate::ReservedAnswer;
 use crate::TransferFrameCreator;
 use crate::TransferFrameCreatorWithReservedData;
 use uslp_kinds::LengthAnswer;
-use uslp_octets::copy_octets;
 ghost use mathlib.Core.Path.{_≡_};
 ghost use Rattle.uslp_kinds.specs.Outcome.{leaving};
 ghost use Rattle.uslp_kinds.specs.Answers.{paperLength};
@@ -17,9 +16,7 @@ impl TransferFrameCreator {
         match TransferFrameCreatorWithReservedData::new(self, data.len(), buf) {
             ReservedAnswer::Refused(refusal) => LengthAnswer::Refused(refusal),
             ReservedAnswer::Done(reserved) => {
-                let start = reserved.data_index;
-                let end = start + data.len();
-                copy_octets(data, &mut buf[start..end]);
+                reserved.fill(data, buf);
                 reserved.finish(buf)
             }
         }

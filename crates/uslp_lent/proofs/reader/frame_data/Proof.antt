@@ -1,7 +1,8 @@
 -- `frame_data` meets its contract, by the walk of `Made`.
-use mathlib.Core.Path.{_≡_, ap, _∙_}
+use mathlib.Core.Path.{_≡_}
 use denote.Ref.{now}
-use Rattle.uslp_reader.specs.Reader.{paperFrame, frameReading, contentsRead}
+use Rattle.uslp_octets.specs.Octets.{PartOf}
+use Rattle.uslp_reader.specs.Reader.{paperFrame, frameReading, contentsRead, contentsReadAt}
 use Rattle.uslp_lent.proofs.Param.{bool}
 use Rattle.uslp_lent.proofs.Held.{octets}
 use Rattle.uslp_lent.proofs.Made.{by-maker}
@@ -18,7 +19,8 @@ pub frame-data-spec : {M : Type 1} → statement M
 unfolding code.routine
 frame-data-spec 𝓤 H 𝓜 𝓖 𝓡 =
     by-maker reader 𝓤 H 𝓜 𝓖 𝓡 code.env key.name bool (λ s fecf n. paperFrame (n .answer) ≡ frameReading (now s) fecf)
-    octets (λ κs s n r. now r ≡ contentsRead (paperFrame (n .answer)) (now s)) (λ κs s fecf r. now r ≡ contentsRead (frameReading (now s) fecf) (now s))
-    (λ κs s fecf n r read shown. shown ∙ ap (λ o. contentsRead o (now s)) read)
+    octets (λ κs s n r. PartOf s (contentsReadAt (paperFrame (n .answer)) (now s)) (contentsRead (paperFrame (n .answer)) (now s)) r)
+    (λ κs s fecf r. PartOf s (contentsReadAt (frameReading (now s) fecf) (now s)) (contentsRead (frameReading (now s) fecf) (now s)) r)
+    (λ κs s fecf n r read shown. rw read at shown)
     maker.name callee.name (code.unfolded 𝓤 H 𝓜 𝓡) maker.routine code.calls-uslp-lent·reader·TransferFrameReader·from-bytes (maker-thm.met 𝓤 H 𝓜 𝓖 𝓡)
     callee.routine code.calls-uslp-lent·reader·TransferFrameReader·data (callee-thm.met 𝓤 H 𝓜 𝓖 𝓡)

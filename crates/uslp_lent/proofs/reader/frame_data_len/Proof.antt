@@ -5,11 +5,8 @@ use borrow.Author.Needs.{needs}
 use Rattle.uslp_lent.proofs.reader.frame_data_len.Statement.{statement}
 use Rattle.uslp_lent.proofs.reader.frame_data_len.Tie as tie
 
-frame-data-requires : tie.Need-frame-data-requires
-frame-data-requires c κs = search needs
-
 returns : tie.Need-returns
-returns c = ap length (c .frame-data .ensures)
+returns c = ap length (c .frame-data .ensures .shows)
 
 pub frame-data-len-spec : {M : Type 1} → statement M
-frame-data-len-spec = tie.close (tie.spec frame-data-requires returns)
+frame-data-len-spec = tie.close (tie.spec (λ c κs. search needs) returns)

@@ -1,7 +1,7 @@
 -- `TransferFrameReader::data` meets its contract, by the walk of `Held`.
-use mathlib.Core.Path.{_≡_}
 use denote.Ref.{now}
-use Rattle.uslp_reader.specs.Reader.{paperFrame, contentsRead}
+use Rattle.uslp_octets.specs.Octets.{PartOf}
+use Rattle.uslp_reader.specs.Reader.{paperFrame, contentsRead, contentsReadAt}
 use Rattle.uslp_lent.proofs.Held.{octets, by-parts}
 use Rattle.uslp_lent.proofs.ReaderHolder.{reader}
 use Rattle.uslp_lent.proofs.parts.«data».Symbol as callee
@@ -13,5 +13,5 @@ use Rattle.uslp_lent.proofs.reader.TransferFrameReader.«data».Code as
 pub data-spec : {M : Type 1} → statement M
 unfolding code.routine
 data-spec 𝓤 H 𝓜 𝓖 𝓡 =
-    by-parts reader octets (λ κs s n r. now r ≡ contentsRead (paperFrame (n .answer)) (now s))
+    by-parts reader octets (λ κs s n r. PartOf s (contentsReadAt (paperFrame (n .answer)) (now s)) (contentsRead (paperFrame (n .answer)) (now s)) r)
     𝓤 H 𝓜 𝓖 𝓡 code.env key.name callee.name (code.unfolded 𝓤 H 𝓜 𝓡) callee.routine code.calls-uslp-lent·parts·data (callee-thm.met 𝓤 H 𝓜 𝓖 𝓡)
