@@ -1,4 +1,4 @@
--- Demand 3 as a claim on any hearing: the places sent, and what arrives of them, say what it hands on and what is missing.
+-- Demand 3 (docs/RULES.md, section 7) as a claim on any hearing: the places sent, and what arrives of them, say what it hands on and what is missing.
 -- It speaks up to the first TOTAL_FULL of the channel, so a hearing that always answers TOTAL_FULL meets it; what shuts that one out is
 -- that ours does not, for fewer than 2^60 arrivals and lost places (`unfilled`).
 use mathlib.Core.Path.{_≡_}

@@ -1,4 +1,4 @@
--- Histories of calls as the console makes them, octets in; the sender of a channel; and what the record is to count.
+-- Histories of calls as the console makes them, octets in; the sender of a channel; and what may happen while the channel is open.
 use mathlib.Core.Path.{_≡_}
 use mathlib.Core.Bool.{Bool, true, false, cond}
 use mathlib.Core.List.{List, [], _∷_, _++_}

@@ -1,4 +1,4 @@
--- Places of frames in the order sent, and what is counted over them: no record and no code stands in these definitions.
+-- Places of frames in the order sent, and what is counted over them (docs/RULES.md, section 7): no record and no code stands here.
 use mathlib.Core.Bool.{Bool, true, false, cond, _&&_}
 use mathlib.Core.List.{List, [], _∷_}
 use Prim.Native.Nat.{ℕ, zero, suc, _+_, _-_, _≤_, _<_, max}

@@ -1,4 +1,4 @@
--- The data field header: CCSDS 732.1-B's table of bit fields, and what each call answers, in the order of document 01.
+-- The data field header: CCSDS 732.1-B's table of bit fields (docs/RULES.md, section 1.2), and what each call answers, in the orders of section 3.
 use mathlib.Core.Path.{_≡_}
 use Prim.Native.Nat.{ℕ, _<_}
 use mathlib.Core.Bool.{Bool, not, _&&_, cond}

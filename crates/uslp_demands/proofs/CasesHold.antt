@@ -1,4 +1,4 @@
--- Document 01's cases hold, computed over the definitions that the promises cite.
+-- The cases hold, computed over the definitions that the promises cite.
 use mathlib.Core.Path.{refl}
 use Rattle.uslp_primary_header.specs.Header.{countSetting, headerReading}
 use Rattle.uslp_data_field_header.specs.Field.{fieldReading}

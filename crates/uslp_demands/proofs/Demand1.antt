@@ -2,13 +2,13 @@
 use mathlib.Core.Path.{_≡_, sym}
 use mathlib.Core.Bool.{Bool, true, cond}
 use mathlib.Core.List.{List, [], _∷_, _++_}
-use Prim.Native.Nat.{ℕ, _-_}
+use Prim.Native.Nat.{ℕ, _-_, min}
 use lib.Dec.{ltb}
 use lib.ListN.{length, take, drop}
 use contract.Lifetimes.{Lfts}
 use denote.Ref.{RefT, now}
-use Rattle.uslp_octets.specs.Octets.{pack}
-use Rattle.uslp_kinds.specs.Outcome.{Outcome, done, refused, firstOf}
+use Rattle.uslp_octets.specs.Octets.{pack, overlaid}
+use Rattle.uslp_kinds.specs.Outcome.{Outcome, done, refused, andThen, firstOf}
 use Rattle.uslp_kinds.proofs.Outcomes.{not-done, refused-keeps}
 use Rattle.uslp_kinds.specs.declared.Refusal.{Refusal}
 use Rattle.uslp_kinds.specs.declared.LengthAnswer.the-variants.{Refused}
@@ -20,7 +20,7 @@ use Rattle.uslp_data_field_header.specs.declared.TransferFrameDataFieldHeader.{
 use Rattle.uslp_data_field_header.proofs as field
 use Rattle.uslp_layout.specs.Layout.{withFecf}
 use Rattle.uslp_writer.specs.Frame.{total, frameChecks, frameOctets, frameWriting}
-use Rattle.uslp_writer.specs.Reserved.{reservation, reservedOctets, reserving, finishLength}
+use Rattle.uslp_writer.specs.Reserved.{reservation, reservedOctets, reserving, finishLength, areaIn, filled}
 use Rattle.uslp_writer.specs.declared.TransferFrameCreator.{TransferFrameCreator}
 use Rattle.uslp_writer.specs.declared.TransferFrameCreatorWithReservedData.{TransferFrameCreatorWithReservedData}
 use Rattle.uslp_writer.specs.declared.ReservedAnswer.the-variants as reserved-answer
@@ -54,6 +54,11 @@ abbrev fn-new : Function
 fn-new =
     function frame.TransferFrameCreatorWithReservedData.new.Kinds.ps frame.TransferFrameCreatorWithReservedData.new.Kinds.r
     frame.TransferFrameCreatorWithReservedData.new.Reads.Pre frame.TransferFrameCreatorWithReservedData.new.Reads.Learnt
+
+abbrev fn-fill : Function
+fn-fill =
+    function frame.TransferFrameCreatorWithReservedData.fill.Kinds.ps frame.TransferFrameCreatorWithReservedData.fill.Kinds.r
+    frame.TransferFrameCreatorWithReservedData.fill.Reads.Pre frame.TransferFrameCreatorWithReservedData.fill.Reads.Learnt
 
 abbrev fn-finish : Function
 fn-finish =
@@ -96,6 +101,13 @@ module _ (r : Refusal) (s : RefT (List ℕ)) (left : List ℕ) where
   unfolding reserving
   reserve-kept κs c n e =
       refused-keeps (firstOf (frameChecks c n ++ short (now s) (total c n)) (done (reservation c n))) (reservedOctets c n (now s)) (now s) (sym e)
+
+  pub fill-kept : (κs : Lfts 2) (k : TransferFrameCreatorWithReservedData) (d : RefT (List ℕ))
+      → Allows fn-fill κs (k, (d, (s, tt))) (Refused r, (tt, (tt, (left, tt))))
+      → left ≡ now s
+  fill-kept κs k d e =
+      refused-keeps (andThen (finishLength k (length (now s))) (λ (n : ℕ). done (min (length (now d)) (k .«data_size»))))
+      (filled k (overlaid (now d) (areaIn k (now s))) (now s)) (now s) (sym e)
 
   pub finish-kept : (κs : Lfts 1) (k : TransferFrameCreatorWithReservedData)
       → Allows fn-finish κs (k, (s, tt)) (Refused r, (tt, (left, tt)))

@@ -55,8 +55,8 @@ judge-settles = record {
       refl;
 }
 
-pub handed-on-shows : Shows fn-handed-on (λ κs a r. now r)
-handed-on-shows = record { total = λ κs a. tt; same = λ κs a x y s t. s ∙ sym t }
+pub handed-on-shows : Shows fn-handed-on (λ κs a r. r)
+handed-on-shows = record { total = λ κs a. tt; same = λ κs a x y s t. (s .lies ∙ sym (t .lies), s .shows ∙ sym (t .shows)) }
 
 -- hands on the data of a REPEAT; hands on nothing of a NEW frame
 pub handed-on-repeat : (r : RefT (List ℕ)) → now r ≡ 0x0A ∷ 0xF0 ∷ [] → Allows fn-handed-on ([], tt) (Done Repeat, (at octetsF, tt)) (r, (tt, (tt, tt))) → ⊥

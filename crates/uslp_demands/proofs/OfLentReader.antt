@@ -90,15 +90,15 @@ raw-frame-settles = by-fact _ _ (λ κs a x y s t. alike (s ∙ sym t) refl)
 pub raw-frame-empty : ShutsOut reader.raw_frame.ended (λ M. reader.raw_frame.clauses) ([], tt) (read, tt) (at [], (tt, tt))
 raw-frame-empty = shut _ _ (λ e. let z : _≡_ {A = ℕ} 0 11 = ap (λ (s : RefT (List ℕ)). length (now s)) e in omega arith)
 
-pub data-shows : Shows reader.data.ended (λ M. reader.data.clauses) (λ κs a r. now r)
-data-shows = by-fact _ _ (λ κs a x y s t. s ∙ sym t)
+pub data-shows : Shows reader.data.ended (λ M. reader.data.clauses) (λ κs a r. r)
+data-shows = by-fact _ _ (λ κs a x y s t. (s .lies ∙ sym (t .lies), s .shows ∙ sym (t .shows)))
 
 -- shows the whole buffer; shows octets on a refusal
 pub data-whole : (r : RefT (List ℕ)) → now r ≡ octetsF → ShutsOut reader.data.ended (λ M. reader.data.clauses) ([], tt) (read, tt) (r, (tt, tt))
-data-whole r h = shut _ _ (λ e. let z : _≡_ {A = ℕ} 11 2 = ap length (sym h ∙ e) in omega arith)
+data-whole r h = shut _ _ (λ e. let z : _≡_ {A = ℕ} 11 2 = ap length (sym h ∙ e .shows) in omega arith)
 
 pub data-refused : (r : RefT (List ℕ)) → now r ≡ 0x0A ∷ 0xF0 ∷ [] → ShutsOut reader.data.ended (λ M. reader.data.clauses) ([], tt) (unread, tt) (r, (tt, tt))
-data-refused r h = shut _ _ (λ e. let z : _≡_ {A = ℕ} 2 0 = ap length (sym h ∙ e) in omega arith)
+data-refused r h = shut _ _ (λ e. let z : _≡_ {A = ℕ} 2 0 = ap length (sym h ∙ e .shows) in omega arith)
 
 pub len-frame-settles : Settles reader.len_frame.ended (λ M. reader.len_frame.clauses)
 len-frame-settles = by-fact _ _ (λ κs a x y s t. alike (one-to-one paperLength (back length-answer.Done length-answer.Refused) length-back {x = x .0} {y = y .0} (s ∙ sym t)) refl)
@@ -188,17 +188,17 @@ source-or-dest-field-source = shut _ _ (λ e. let d : Source ≡ Dest = done-one
 pub source-or-dest-field-made-up : ShutsOut reader.source_or_dest_field.ended (λ M. reader.source_or_dest_field.clauses) ([], tt) (unread, tt) (role-answer.Done Dest, (tt, tt))
 source-or-dest-field-made-up = shut _ _ (λ e. not-done (sym e))
 
-pub frame-data-shows : Shows lent.frame_data.ended (λ M. lent.frame_data.clauses) (λ κs a r. now r)
-frame-data-shows = by-fact _ _ (λ κs a x y s t. s ∙ sym t)
+pub frame-data-shows : Shows lent.frame_data.ended (λ M. lent.frame_data.clauses) (λ κs a r. r)
+frame-data-shows = by-fact _ _ (λ κs a x y s t. (s .lies ∙ sym (t .lies), s .shows ∙ sym (t .shows)))
 
 -- shows the whole buffer; shows nothing of a frame that can be read
 pub frame-data-whole : (r : RefT (List ℕ)) → now r ≡ octetsF → ShutsOut lent.frame_data.ended (λ M. lent.frame_data.clauses) ([], tt) (at octetsF, (false, tt)) (r, (tt, (tt, tt)))
 unfolding frameReading headerReading fieldReading
-frame-data-whole r h = shut _ _ (λ e. let z : _≡_ {A = ℕ} 11 2 = ap length (sym h ∙ e) in omega arith)
+frame-data-whole r h = shut _ _ (λ e. let z : _≡_ {A = ℕ} 11 2 = ap length (sym h ∙ e .shows) in omega arith)
 
 pub frame-data-none : (r : RefT (List ℕ)) → now r ≡ [] → ShutsOut lent.frame_data.ended (λ M. lent.frame_data.clauses) ([], tt) (at octetsF, (false, tt)) (r, (tt, (tt, tt)))
 unfolding frameReading headerReading fieldReading
-frame-data-none r h = shut _ _ (λ e. let z : _≡_ {A = ℕ} 0 2 = ap length (sym h ∙ e) in omega arith)
+frame-data-none r h = shut _ _ (λ e. let z : _≡_ {A = ℕ} 0 2 = ap length (sym h ∙ e .shows) in omega arith)
 
 pub frame-data-len-settles : promise.Settles fn-frame-data-len
 frame-data-len-settles = record { total = λ κs a. tt; same = λ κs a x y s t. alike (s ∙ sym t) refl }

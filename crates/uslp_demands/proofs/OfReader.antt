@@ -171,8 +171,8 @@ operational-control-field-zero e = let z : _≡_ {A = ℕ} 0 1 = cc in omega ari
 pub raw-frame-settles : Settles fn-raw-frame
 raw-frame-settles = record { total = λ κs a. tt; same = λ κs a x y s t. alike (s ∙ sym t) refl }
 
-pub data-shows : Shows fn-data (λ κs a r. now r)
-data-shows = record { total = λ κs a. tt; same = λ κs a x y s t. s ∙ sym t }
+pub data-shows : Shows fn-data (λ κs a r. r)
+data-shows = record { total = λ κs a. tt; same = λ κs a x y s t. (s .lies ∙ sym (t .lies), s .shows ∙ sym (t .shows)) }
 
 -- shows the whole buffer; reads past what was lent
 pub data-whole : (r : RefT (List ℕ)) → now r ≡ octetsF → Allows fn-data ([], tt) (readF, (at octetsF, tt)) (r, (tt, (tt, tt))) → ⊥
@@ -181,8 +181,8 @@ data-whole r h e = let z : _≡_ {A = ℕ} 0 1 = cc in omega arith
 pub data-past : (r : RefT (List ℕ)) → now r ≡ 0 ∷ 0 ∷ [] → Allows fn-data ([], tt) (readF, (at [], tt)) (r, (tt, (tt, tt))) → ⊥
 data-past r h e = let z : _≡_ {A = ℕ} 0 1 = cc in omega arith
 
-pub data-of-shows : Shows fn-data-of (λ κs a r. now r)
-data-of-shows = record { total = λ κs a. tt; same = λ κs a x y s t. s ∙ sym t }
+pub data-of-shows : Shows fn-data-of (λ κs a r. r)
+data-of-shows = record { total = λ κs a. tt; same = λ κs a x y s t. (s .lies ∙ sym (t .lies), s .shows ∙ sym (t .shows)) }
 
 -- shows octets on a refusal
 pub data-of-refused : (r : RefT (List ℕ)) → now r ≡ 1 ∷ [] → Allows fn-data-of ([], tt) (frame-answer.Refused Truncated, (at (1 ∷ []), tt)) (r, (tt, (tt, tt))) → ⊥

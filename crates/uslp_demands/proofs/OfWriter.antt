@@ -5,6 +5,7 @@ use mathlib.Core.Bool.{true, false}
 use mathlib.Core.List.{List, [], _∷_}
 use Prim.Native.Nat.{ℕ}
 use native.Mathlib.Omega.{arith}
+use lib.ListN.{getD}
 use denote.Ref.{RefT, now}
 use Rattle.uslp_kinds.specs.Answers.{paperLength}
 use Rattle.uslp_kinds.proofs.Back.{back, one-to-one, length-back, leaving-one}
@@ -52,6 +53,11 @@ abbrev fn-data-mut : Function
 fn-data-mut =
     function frame.TransferFrameCreatorWithReservedData.data_mut.Kinds.ps frame.TransferFrameCreatorWithReservedData.data_mut.Kinds.r
     frame.TransferFrameCreatorWithReservedData.data_mut.Reads.Pre frame.TransferFrameCreatorWithReservedData.data_mut.Reads.Learnt
+
+abbrev fn-fill : Function
+fn-fill =
+    function frame.TransferFrameCreatorWithReservedData.fill.Kinds.ps frame.TransferFrameCreatorWithReservedData.fill.Kinds.r
+    frame.TransferFrameCreatorWithReservedData.fill.Reads.Pre frame.TransferFrameCreatorWithReservedData.fill.Reads.Learnt
 
 abbrev fn-finish : Function
 fn-finish =
@@ -118,8 +124,8 @@ reserved-len-sum e = omega arith
 pub reserved-len-size : Allows fn-transfer-frame-creator-with-reserved-data-len-written tt (small, tt) (4, (tt, tt)) → ⊥
 reserved-len-size e = omega arith
 
-pub reserved-data-shows : Shows fn-data (λ κs a r. now r)
-reserved-data-shows = record { total = λ κs a. tt; same = λ κs a x y s t. s ∙ sym t }
+pub reserved-data-shows : Shows fn-data (λ κs a r. r)
+reserved-data-shows = record { total = λ κs a. tt; same = λ κs a x y s t. (s .lies ∙ sym (t .lies), s .shows ∙ sym (t .shows)) }
 
 -- shows the area though finishing would refuse; shows nothing though it would not
 pub reserved-data-lax : (r : RefT (List ℕ)) → now r ≡ 4 ∷ 5 ∷ 6 ∷ 7 ∷ [] → Allows fn-data ([], tt) (small, (at (1 ∷ 2 ∷ 3 ∷ 4 ∷ 5 ∷ 6 ∷ 7 ∷ []), tt)) (r, (tt, (tt, tt))) → ⊥
@@ -130,8 +136,33 @@ pub reserved-data-none : (r : RefT (List ℕ)) → now r ≡ [] → Allows fn-da
 unfolding finishLength
 reserved-data-none r h e = let z : _≡_ {A = ℕ} 0 1 = cc in omega arith
 
-pub reserved-data-mut-shows : Shows fn-data-mut (λ κs a r. now r)
-reserved-data-mut-shows = record { total = λ κs a. tt; same = λ κs a x y s t. s ∙ sym t }
+pub reserved-data-mut-shows : Shows fn-data-mut (λ κs a r. r)
+reserved-data-mut-shows = record { total = λ κs a. tt; same = λ κs a x y s t. (s .lies ∙ sym (t .lies), s .shows ∙ sym (t .shows)) }
+
+-- the octet before the area, where it equals the area's first: a caller who writes through it would overwrite a header
+abbrev second : TransferFrameCreatorWithReservedData
+second = record { «data_index» = 1; «data_size» = 1; «len_written» = 2; «has_fecf» = false }
+
+pub reserved-data-mut-early : (r : RefT (List ℕ)) → r .ptr ≡ (0, 0) → Allows fn-data-mut ([], tt) (second, (at (7 ∷ 7 ∷ []), tt)) (r, (tt, (7 ∷ 7 ∷ [], tt))) → ⊥
+unfolding finishLength
+reserved-data-mut-early r h e = let z : _≡_ {A = ℕ} 0 1 = ap (λ (p : ℕ × ℕ). p .1) (sym h ∙ e .lies) in omega arith
+
+pub fill-settles : Settles fn-fill
+fill-settles = record {
+  total = λ κs a. tt;
+  same = λ κs a x y s t.
+      let e = leaving-one (s ∙ sym t) in
+      alike (one-to-one paperLength (back length-answer.Done length-answer.Refused) length-back {x = x .0} {y = y .0} (e .0)) (λ i. (tt, (tt, (e .1 i, tt))));
+}
+
+-- lays nothing; lays over the octets before the area
+pub fill-idle : Allows fn-fill ([], ([], tt)) (second, (at (9 ∷ []), (at (7 ∷ 7 ∷ []), tt))) (length-answer.Done 1, (tt, (tt, (7 ∷ 7 ∷ [], tt)))) → ⊥
+unfolding finishLength
+fill-idle e = let z : _≡_ {A = ℕ} 7 9 = ap (λ (l : List ℕ). getD l 1 0) (leaving-one e .1) in omega arith
+
+pub fill-early : Allows fn-fill ([], ([], tt)) (second, (at (9 ∷ []), (at (7 ∷ 7 ∷ []), tt))) (length-answer.Done 1, (tt, (tt, (9 ∷ 7 ∷ [], tt)))) → ⊥
+unfolding finishLength
+fill-early e = let z : _≡_ {A = ℕ} 9 7 = ap (λ (l : List ℕ). getD l 0 0) (leaving-one e .1) in omega arith
 
 pub finish-settles : Settles fn-finish
 finish-settles = record { total = λ κs a. tt; same = λ κs a x y s t. let e = leaving-one (s ∙ sym t) in alike (one-to-one paperLength (back length-answer.Done length-answer.Refused) length-back (e .0)) (λ i. (tt, (e .1 i, tt))) }

@@ -1,4 +1,4 @@
--- Document 01's cases that are proved: one table of questions and answers, under one claim.
+-- The cases of docs/RULES.md, section 10, that are proved: one table of questions and answers, under one claim.
 use mathlib.Core.Path.{_≡_}
 use mathlib.Core.Bool.{Bool, true, false}
 use mathlib.Core.List.{List, [], _∷_, map}

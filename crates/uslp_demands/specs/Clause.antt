@@ -10,10 +10,11 @@ use prog.Memory.{Memory}
 use prog.Routine.{Routine}
 use ghost.Atoms.{Atoms}
 use contract.Lifetimes.{Lfts}
+use denote.Ref.{RefT}
 use contract.Monad.{Fun, conj, fact}
 use denote.Triple.Entry.{Args, Res}
 use denote.Triple.Clauses.{Ended, Clauses, atExit}
-use Rattle.uslp_demands.specs.Promise.{LeftBy}
+use Rattle.uslp_demands.specs.Promise.{LeftBy, SamePart}
 
 -- the clauses of a function, at each model
 abbrev pub Promise : Ended → Type 2
@@ -39,8 +40,8 @@ module _ (T : Ended) where
   abbrev pub Settles : Promise T → Type 2
   Settles promise = AnyTwo promise (λ κs a x y. x ≡ y)
 
-  abbrev pub Shows : Promise T → ((κs : Lfts (T .signature .lifetimes)) (a : Args (T .signature) κs) → Res (T .signature) κs → List ℕ) → Type 2
-  Shows promise shown = AnyTwo promise (λ κs a x y. shown κs a (x .0) ≡ shown κs a (y .0))
+  abbrev pub Shows : Promise T → ((κs : Lfts (T .signature .lifetimes)) (a : Args (T .signature) κs) → Res (T .signature) κs → RefT (List ℕ)) → Type 2
+  Shows promise part = AnyTwo promise (λ κs a x y. SamePart (part κs a (x .0)) (part κs a (y .0)))
 
   -- where the promise allows this outcome of a call with the arguments a, R holds, at every model
   pub record Implies (promise : Promise T) (κs : Lfts (T .signature .lifetimes)) (a : Args (T .signature) κs) (x : LeftBy T κs a) (R : Type 0) : Type 2 where

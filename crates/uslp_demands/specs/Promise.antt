@@ -4,7 +4,7 @@ use Prim.Native.Nat.{ℕ}
 use mathlib.Core.Path.{_≡_}
 use mathlib.Core.List.{List}
 use contract.Lifetimes.{Lfts}
-use denote.Ref.{RefT}
+use denote.Ref.{RefT, now}
 use denote.Triple.Entry.{Args, Res}
 use denote.Triple.Clauses.{Ended, Lasts, atExit}
 use borrow.Fn.Kind.{PK, RK}
@@ -13,6 +13,10 @@ use borrow.Fn.Kinds.{In, Out, Dens, resT, endedOf}
 -- a slice that holds these octets
 abbrev pub at : List ℕ → RefT (List ℕ)
 at s = record { ptr = (0, 0); name = 0; now = s }
+
+-- two parts of what was lent that are one: they lie at the same place and show the same
+abbrev pub SamePart : RefT (List ℕ) → RefT (List ℕ) → Type 0
+SamePart p q = (p .ptr ≡ q .ptr) × (now p ≡ now q)
 
 -- what a call with the arguments a leaves: its answer, and the last contents of each `&mut`
 abbrev pub LeftBy : (T : Ended) (κs : Lfts (T .signature .lifetimes)) → Args (T .signature) κs → Type 0
@@ -46,9 +50,9 @@ module _ (F : Function) where
   abbrev pub Settles : Type 0
   Settles = AnyTwo (λ κs a x y. x ≡ y)
 
-  -- of a function that hands back a part of what it was lent: what the part shows is equal, where it lies is not spoken of
-  abbrev pub Shows : ((κs : Lfts (F .lifetimes)) (a : Dens κs (F .params)) → resT (F .result) κs .Denot → List ℕ) → Type 0
-  Shows shown = AnyTwo (λ κs a x y. shown κs a (x .0) ≡ shown κs a (y .0))
+  -- of a function that hands back a part of what it was lent: the part lies at one place and shows one thing
+  abbrev pub Shows : ((κs : Lfts (F .lifetimes)) (a : Dens κs (F .params)) → resT (F .result) κs .Denot → RefT (List ℕ)) → Type 0
+  Shows part = AnyTwo (λ κs a x y. SamePart (part κs a (x .0)) (part κs a (y .0)))
 
   -- a program, as far as a promise sees it: what it leaves on each argument
   abbrev pub Program : Type 0

@@ -1,9 +1,9 @@
 -- What judging and hearing a frame say, path by path; and the ways back from paper.
-use mathlib.Core.Path.{_≡_, refl, ap, sym, _∙_}
+use mathlib.Core.Path.{_≡_, refl, ap, _∙_}
 use mathlib.Core.Bool.{Bool}
 use mathlib.Core.List.{List}
 use Prim.Native.Nat.{ℕ}
-use Rattle.uslp_kinds.specs.Outcome.{Outcome, done, andThen}
+use Rattle.uslp_kinds.specs.Outcome.{Outcome, andThen}
 use Rattle.uslp_kinds.proofs.Back.{back, refusal-back}
 use Rattle.uslp_reader.specs.Reader.{frameReading}
 use Rattle.uslp_reader.specs.declared.TransferFrame.{TransferFrame}

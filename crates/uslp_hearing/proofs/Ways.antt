@@ -1,12 +1,11 @@
 -- The ways through hearing octets: it is refused and leaves the record, or a frame that was read is counted.
-use mathlib.Core.Path.{_≡_, refl, ap, sym, _∙_}
+use mathlib.Core.Path.{_≡_, refl, sym}
 use mathlib.Core.Bool.{Bool}
 use mathlib.Core.List.{List}
 use Prim.Native.Nat.{ℕ, _≤_}
 use Rattle.uslp_octets.specs.Octets.{AreOctets}
 use Rattle.uslp_kinds.specs.Outcome.{Outcome, done, refused, andThen}
 use Rattle.uslp_kinds.proofs.Outcomes.{not-done}
-use Rattle.uslp_primary_header.specs.Header.{Fitting}
 use Rattle.uslp_primary_header.proofs.Checks.{count-in}
 use Rattle.uslp_primary_header.proofs.RoundTrip.{read-width, read-fitting}
 use Rattle.uslp_reader.specs.Reader.{frameReading}

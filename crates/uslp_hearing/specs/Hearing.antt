@@ -1,4 +1,4 @@
--- Hearing a frame: what it answers, what it hands on, and the record that it leaves, in the order of document 01.
+-- Hearing a frame (docs/RULES.md, section 6.3): what it answers, what it hands on, and the record that it leaves, in its order.
 use Prim.Native.Nat.{ℕ}
 use mathlib.Core.Bool.{Bool}
 use mathlib.Core.List.{List, []}

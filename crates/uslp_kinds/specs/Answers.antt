@@ -1,4 +1,4 @@
--- Document 01's table of refusals, row by row, and what each answer that carries nothing, a number or an id says on paper.
+-- The table of refusals (docs/RULES.md, section 2), row by row, and what each answer that carries nothing, a number or an id says on paper.
 use Prim.Native.Nat.{ℕ}
 use mathlib.Core.List.{List, [], _∷_}
 use Rattle.uslp_kinds.specs.Outcome.{Outcome, done, refused}

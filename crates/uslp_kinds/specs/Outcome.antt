@@ -1,9 +1,9 @@
--- An answer on paper, and how a call's order of checks is written down.
+-- An answer on paper, and how a call's order of checks is written down (docs/RULES.md, section 2).
 use Prim.Native.Nat.{ℕ}
 use mathlib.Core.Bool.{Bool, cond}
 use mathlib.Core.List.{List, [], _∷_}
 
--- done, with what was asked for; or document 01's number of a refusal, with what it carries
+-- done, with what was asked for; or a refusal's number in the table, with what it carries
 pub data Outcome (A : Type 0) : Type 0 where
   done : A → Outcome A
   refused : ℕ → List ℕ → Outcome A

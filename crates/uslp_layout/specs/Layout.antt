@@ -1,4 +1,5 @@
--- The layout of a whole frame over its fields: primary header, data field header, data, OCF if its flag is set, FECF if asked for.
+-- The layout of a whole frame over its fields (docs/RULES.md, section 1.3): primary header, data field header, data, OCF if its flag is set,
+-- FECF if asked for.
 use mathlib.Core.Path.{_≡_}
 use Prim.Native.Nat.{ℕ, _+_, _^_, _<_}
 use mathlib.Core.Bool.{Bool, true, false, cond}

@@ -1,4 +1,4 @@
--- Setting a lent header: of the outcome on the header by value, what is left behind the reference, and what is answered.
+-- Setting a lent header (docs/RULES.md, section 9): of the outcome on the header by value, what is left behind the reference, and what is answered.
 use Rattle.uslp_kinds.specs.Outcome.{Outcome, done, refused}
 use Rattle.uslp_primary_header.specs.declared.PrimaryHeader.{PrimaryHeader}
 

@@ -1,4 +1,4 @@
--- The listing of a recording: a line for each frame without FECF, end to end, until a refusal or the end.
+-- The listing of a recording (docs/RULES.md, section 8): a line for each frame without FECF, end to end, until a refusal or the end.
 use Prim.Native.Nat.{ℕ, zero, suc, _+_}
 use mathlib.Core.Bool.{false, cond}
 use mathlib.Core.List.{List, [], _∷_, _++_}

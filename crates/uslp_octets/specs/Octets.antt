@@ -1,4 +1,5 @@
 -- Numbers and rows of bit fields as octets. The first octet and the first field are the most significant, as CCSDS documents draw them.
+-- Sections cited in specs/ are those of docs/RULES.md; its section 11 has the words.
 use Prim.Native.Nat.{ℕ, zero, suc, _+_, _*_, _/_, _%_, _^_, _<_}
 use mathlib.Core.List.{List, [], _∷_, _++_}
 use mathlib.Core.Bool.{cond}

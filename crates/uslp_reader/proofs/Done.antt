@@ -1,5 +1,4 @@
 -- What a reading that was done went through, and back; and the way back from an answer on paper.
--- Assumes nothing.
 use mathlib.Core.Path.{_≡_, refl, ap, sym, _∙_, subst}
 use Prim.Native.Nat.{ℕ, _-_, _≤_}
 use mathlib.Core.Bool.{Bool, true, false, not, _&&_, false≢true}

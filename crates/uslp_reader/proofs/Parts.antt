@@ -1,5 +1,4 @@
 -- Parts of the octets as the code takes them, and the frame by its parts.
--- Assumes nothing.
 use mathlib.Core.Path.{_≡_, ap, _∙_}
 use Prim.Native.Nat.{ℕ, _+_, _-_, _*_, _≤_}
 use mathlib.Core.Bool.{Bool, true, cond}

@@ -1,4 +1,4 @@
--- Reading a frame: what stands in the octets, and what the reader answers, in the order of document 01.
+-- Reading a frame (docs/RULES.md, section 5): what stands in the octets, and what the reader answers, in its order.
 use Prim.Native.Nat.{ℕ, _+_, _-_}
 use mathlib.Core.Bool.{Bool, not, cond, _&&_}
 use mathlib.Core.List.{List, [], _∷_}

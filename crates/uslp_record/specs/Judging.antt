@@ -1,4 +1,4 @@
--- Hearing a frame of a channel, as numbers: NEW, REPEAT or LATE, and the totals that it leaves.
+-- Hearing a frame of a channel, as numbers (docs/RULES.md, section 6.3): NEW, REPEAT or LATE, and the totals that it leaves.
 use Prim.Native.Nat.{ℕ, _+_, _-_, _^_, _%_, _/_}
 use mathlib.Core.Bool.{Bool, cond, not, _||_}
 use mathlib.Core.List.{[], _∷_}

@@ -1,4 +1,4 @@
--- Opening, closing and asking: what each call answers and the record that it leaves, in the order of document 01.
+-- Opening, closing and asking (docs/RULES.md, sections 6.2 and 6.4): what each call answers and the record that it leaves, in its order.
 use Prim.Native.Nat.{ℕ, _+_, _-_, _^_}
 use mathlib.Core.Bool.{Bool, false, _||_}
 use mathlib.Core.List.{List, [], _∷_}

@@ -1,4 +1,4 @@
--- Eight slots: which of them holds a channel, which is closed, and the record with a slot replaced.
+-- Eight slots (docs/RULES.md, section 6.1): which of them holds a channel, which is closed, and the record with a slot replaced.
 use mathlib.Core.Bool.{Bool, true, false, cond, _&&_}
 use mathlib.Core.List.{List, [], _∷_}
 use Prim.Native.Nat.{ℕ, suc}

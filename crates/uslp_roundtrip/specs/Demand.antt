@@ -1,4 +1,4 @@
--- Demand 2 as a claim on any reader and on any writer.
+-- Demand 2 (docs/RULES.md, section 7) as a claim on any reader and on any writer.
 use mathlib.Core.Path.{_≡_}
 use mathlib.Core.Bool.{Bool}
 use mathlib.Core.Logic.{_↔_}

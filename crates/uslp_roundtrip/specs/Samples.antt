@@ -1,4 +1,4 @@
--- Headers, frames and octets that the claims are tried on.
+-- Frame F (docs/RULES.md, section 10), and headers, frames and octets that the claims are tried on.
 use mathlib.Core.Bool.{Bool, true, false}
 use mathlib.Core.List.{List, [], _∷_}
 use Prim.Native.Nat.{ℕ}

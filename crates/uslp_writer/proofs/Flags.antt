@@ -1,5 +1,4 @@
 -- The OCF of a frame, given or not: whether it is missing, how long the frame is with it, and what putting it leaves.
--- Assumes nothing.
 use mathlib.Core.Path.{_≡_, refl, ap, sym, _∙_}
 use Prim.Native.Nat.{ℕ, _+_, _-_, _≤_}
 use mathlib.Core.List.{List, _++_}

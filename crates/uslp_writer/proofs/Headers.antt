@@ -1,5 +1,4 @@
 -- Both headers of a frame as they are written: that they pass their checks, how long they are, and what writing them leaves.
--- Assumes nothing.
 use mathlib.Core.Path.{_≡_, refl, ap, ap₂, sym, _∙_}
 use Prim.Native.Nat.{ℕ, _+_, _-_, _≤_}
 use mathlib.Core.List.{List, _++_}

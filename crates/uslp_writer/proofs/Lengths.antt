@@ -1,5 +1,4 @@
 -- What the checks of a frame that is written say, path by path, also in front of further checks.
--- Assumes nothing.
 use mathlib.Core.Path.{_≡_, refl, ap, sym, _∙_}
 use Prim.Native.Nat.{ℕ, _<_, _≤_}
 use mathlib.Core.Bool.{Bool, true, false, _||_}

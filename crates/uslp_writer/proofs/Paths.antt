@@ -1,5 +1,4 @@
 -- What `reserving` and `frameWriting` say, path by path: both are one writing, with another answer and other octets.
--- Assumes nothing.
 use mathlib.Core.Path.{_≡_, refl, ap, sym, _∙_}
 use Prim.Native.Nat.{ℕ, _<_, _≤_}
 use mathlib.Core.Bool.{Bool, false}

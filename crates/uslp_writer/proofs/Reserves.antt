@@ -1,5 +1,4 @@
 -- What putting the headers and the OCF of a frame asks for and leaves.
--- Assumes nothing.
 use mathlib.Core.Path.{_≡_, ap, ap₂, sym, _∙_}
 use Prim.Native.Nat.{ℕ, _+_, _≤_}
 use mathlib.Core.List.{List, _++_}

@@ -1,4 +1,4 @@
--- Writing a frame: the header as it is completed, and what the calls answer, in the order of document 01.
+-- Writing a frame (docs/RULES.md, section 4.1): the header as it is completed, and what the calls answer, in their order.
 use Prim.Native.Nat.{ℕ, _+_}
 use mathlib.Core.Bool.{Bool, not, _&&_, _||_}
 use mathlib.Core.List.{List, [], _∷_, _++_}

@@ -1,4 +1,4 @@
--- The writer that reserves the data area: what making it, filling it and finishing it answer and leave, in the order of document 01.
+-- The writer that reserves the data area (docs/RULES.md, section 4.2): what making, filling and finishing answer and leave, in their order.
 use Prim.Native.Nat.{ℕ, _+_, _-_, min}
 use mathlib.Core.Bool.{true, cond, _||_}
 use mathlib.Core.List.{List, [], _∷_, _++_}

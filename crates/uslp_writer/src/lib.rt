@@ -2,6 +2,7 @@
 use uslp_data_field_header::DataFieldHeaderAnswer;
 use uslp_data_field_header::TransferFrameDataFieldHeader;
 use uslp_kinds::LengthAnswer;
+use uslp_kinds::MAX_FRAME_LEN;
 use uslp_kinds::OperationalControlField;
 use uslp_kinds::Refusal;
 use uslp_primary_header::HeaderAnswer;
@@ -62,13 +63,13 @@ fn total_of(frame: TransferFrameCreator, data_len: usize) -> LengthAnswer
     if ocf_missing(frame) {
         return LengthAnswer::Refused(Refusal::OcfMissing);
     }
-    if data_len > 65536 {
+    if data_len > MAX_FRAME_LEN {
         return LengthAnswer::Refused(Refusal::TooLong);
     }
     let header = with_ocf_flag(frame);
     let field = frame.data_field_header;
     let total = uslp_layout::needed_len(header, field, frame.has_fecf) + data_len;
-    if total > 65536 {
+    if total > MAX_FRAME_LEN {
         return LengthAnswer::Refused(Refusal::TooLong);
     }
     LengthAnswer::Done(total)

@@ -5,6 +5,7 @@ use crate::TransferFrameCreatorWithReservedData;
 use crate::with_ocf_flag;
 use uslp_checksum::checksum;
 use uslp_kinds::LengthAnswer;
+use uslp_kinds::MAX_FRAME_LEN;
 use uslp_kinds::OperationalControlField;
 use uslp_kinds::Refusal;
 use uslp_layout::data_start;
@@ -125,18 +126,18 @@ fn finish_len(frame: TransferFrameCreatorWithReservedData, found: usize) -> Leng
     ensures { λ r. ⌜ paperLength r ≡ finishLength frame found ⌝ }
 {
     let total = frame.len_written;
-    if total > 65536 {
+    if total > MAX_FRAME_LEN {
         return LengthAnswer::Refused(Refusal::TooLong);
     }
     // tested one by one, so that no sum can wrap
-    if frame.data_index > 65536 {
+    if frame.data_index > MAX_FRAME_LEN {
         return LengthAnswer::Refused(Refusal::TooLong);
     }
-    if frame.data_size > 65536 {
+    if frame.data_size > MAX_FRAME_LEN {
         return LengthAnswer::Refused(Refusal::TooLong);
     }
     let needed = frame.data_index + frame.data_size + fecf_len(frame.has_fecf);
-    if needed > 65536 {
+    if needed > MAX_FRAME_LEN {
         return LengthAnswer::Refused(Refusal::TooLong);
     }
     if total < needed {

@@ -4,7 +4,6 @@ use Rattle.uslp_kinds.specs.Outcome.{done}
 use Rattle.uslp_record.specs.Record.{keeping}
 use Rattle.uslp_record.specs.Judging.{taken}
 use Rattle.uslp_hearing.specs.Hearing.{paperJudge}
-use Rattle.uslp_hearing.specs.declared.JudgeAnswer.{JudgeAnswer}
 use borrow.Author.Needs.{needs}
 use Rattle.uslp_hearing.proofs.hear.Statement.{statement}
 use Rattle.uslp_hearing.proofs.hear.Tie as tie

@@ -1,5 +1,4 @@
 -- `read_body` meets its contract: at each `return` the tests that led there say which law of `frameReading` holds.
--- Assumes nothing.
 use mathlib.Core.Path.{ap, ap₂, sym, _∙_}
 use Prim.Native.Nat.{ℕ, _≤_}
 use mathlib.Core.Bool.{false≢true}
@@ -19,12 +18,6 @@ use Rattle.uslp_reader.proofs.read_body.Tie as tie
 room : (d : tie.Else1) → let a = d .before .before .before .before .args in needed (a .header) (a .field) (a .has-fecf) ≤ lenFrame (a .header)
 room d = omega (arith, d .before .before .len-frame .ensures, d .before .needed-len .ensures, d .if1 .left)
 
-len-frame-requires : tie.Need-len-frame-requires
-len-frame-requires c κs = search needs
-
-needed-len-requires : tie.Need-needed-len-requires
-needed-len-requires c κs = search needs
-
 returns : tie.Need-returns
 returns c =
     let d = c .before .before in
@@ -32,33 +25,6 @@ returns c =
     let l = d .len-frame .ensures in
     let n = c .before .needed-len .ensures in
     ap₂ (λ (a b : ℕ). refused 7 (a ∷ b ∷ [])) l n ∙ sym (reading-too-short _ _ _ (p .0) (p .1) _ (p .2) (omega (arith, l, n, c .if1 .taken)))
-
-sub-checksum : tie.Need-sub-checksum
-sub-checksum c = search needs
-
-part-checksum-start : tie.Need-part-checksum-start
-part-checksum-start c = search needs
-
-part-checksum-end : tie.Need-part-checksum-end
-part-checksum-end c = search needs
-
-checksum-requires : tie.Need-checksum-requires
-checksum-requires c κs = search needs
-
-sub-be-u16 : tie.Need-sub-be-u16
-sub-be-u16 c = search needs
-
-shared-slice-read-be-u16 : tie.Need-shared-slice-read-be-u16
-shared-slice-read-be-u16 c = search needs
-
-sub-be-u16-2 : tie.Need-sub-be-u16-2
-sub-be-u16-2 c = search needs
-
-shared-slice-read-be-u16-2 : tie.Need-shared-slice-read-be-u16-2
-shared-slice-read-be-u16-2 c = search needs
-
-be-u16-requires : tie.Need-be-u16-requires
-be-u16-requires c κs = search needs
 
 returns-2 : tie.Need-returns-2
 returns-2 c =
@@ -73,9 +39,6 @@ returns-2 c =
     (reading-checksum _ _ _ (start .pre .0) (start .pre .1) _ (start .pre .2) r (k .before .before .before .if2 .taken)
     (λ z. omega (arith, k .if3 .taken, k .before .checksum .ensures, ap checksumOf (first-part s _ _ l))))
 
-frame-of-requires : tie.Need-frame-of-requires
-frame-of-requires c κs = search needs
-
 returns-3 : tie.Need-returns-3
 returns-3 c =
     let k = c .before .before in
@@ -86,9 +49,6 @@ returns-3 c =
     sym
     (reading-frame _ _ _ (start .pre .0) (start .pre .1) _ (start .pre .2) (room d) (λ t. omega (arith, c .before .if3 .left, k .checksum .ensures, ap checksumOf part))
     l (d .before .needed-len .ensures) (c .frame-of .ensures))
-
-frame-of-requires-2 : tie.Need-frame-of-requires-2
-frame-of-requires-2 c κs = search needs
 
 returns-4 : tie.Need-returns-4
 returns-4 c =
@@ -102,20 +62,20 @@ pub read-body-spec : {M : Type 1} → statement M
 read-body-spec =
     tie.close
     (tie.spec
-    len-frame-requires
-    needed-len-requires
+    (λ c κs. search needs)
+    (λ c κs. search needs)
     returns
-    sub-checksum
-    part-checksum-start
-    part-checksum-end
-    checksum-requires
-    sub-be-u16
-    shared-slice-read-be-u16
-    sub-be-u16-2
-    shared-slice-read-be-u16-2
-    be-u16-requires
+    (λ c. search needs)
+    (λ c. search needs)
+    (λ c. search needs)
+    (λ c κs. search needs)
+    (λ c. search needs)
+    (λ c. search needs)
+    (λ c. search needs)
+    (λ c. search needs)
+    (λ c κs. search needs)
     returns-2
-    frame-of-requires
+    (λ c κs. search needs)
     returns-3
-    frame-of-requires-2
+    (λ c κs. search needs)
     returns-4)

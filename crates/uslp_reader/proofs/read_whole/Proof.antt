@@ -1,5 +1,4 @@
 -- `read_whole` meets its contract: the length and what the data field header's reading says decide.
--- Assumes nothing.
 use mathlib.Core.Path.{_≡_, ap, sym, _∙_}
 use Prim.Native.Nat.{ℕ, _≤_}
 use mathlib.Core.List.{[], _∷_}
@@ -16,9 +15,6 @@ use borrow.Author.Needs.{needs}
 use Rattle.uslp_reader.proofs.read_whole.Statement.{statement}
 use Rattle.uslp_reader.proofs.read_whole.Tie as tie
 
-len-frame-requires : tie.Need-len-frame-requires
-len-frame-requires c κs = search needs
-
 returns : tie.Need-returns
 returns c =
     let d = c .before in
@@ -26,9 +22,6 @@ returns c =
     let start = d .before .before in
     ap (λ (a : ℕ). refused 1 (length (start .args .buf .now) ∷ a ∷ [])) l
     ∙ sym (reading-short _ _ _ (start .pre) (omega (arith, l, c .if1 .taken)))
-
-len-header-requires : tie.Need-len-header-requires
-len-header-requires c κs = search needs
 
 -- the header that was read stands in the octets
 long : (d : tie.After-len-header) → d .len-header .result ≤ length (d .before .before .before .before .args .buf .now)
@@ -39,15 +32,6 @@ sub-from-bytes c = long c
 
 part-from-bytes-start : tie.Need-part-from-bytes-start
 part-from-bytes-start c = long c
-
-part-from-bytes-end : tie.Need-part-from-bytes-end
-part-from-bytes-end c = search needs
-
-from-bytes-requires : tie.Need-from-bytes-requires
-from-bytes-requires c κs = search needs
-
-enum-known-field : tie.Need-enum-known-field
-enum-known-field c = search needs
 
 -- an answer to the reading of the rest names what stands there
 answered : (d : tie.After-from-bytes) {r : DataFieldHeaderAnswer} → d .from-bytes .result ≡ r
@@ -62,12 +46,6 @@ read-body-requires c κs =
     let k = d .before .before .before in
     (k .before .before .before .pre, omega (arith, k .before .len-frame .ensures, k .if1 .left), answered d (c .before .field .given .1))
 
-enum-known-refusal : tie.Need-enum-known-refusal
-enum-known-refusal c = search needs
-
-returns-2 : tie.Need-returns-2
-returns-2 c = search needs
-
 returns-3 : tie.Need-returns-3
 returns-3 c =
     let d = c .before .before .before in
@@ -80,15 +58,15 @@ pub read-whole-spec : {M : Type 1} → statement M
 read-whole-spec =
     tie.close
     (tie.spec
-    len-frame-requires
+    (λ c κs. search needs)
     returns
-    len-header-requires
+    (λ c κs. search needs)
     sub-from-bytes
     part-from-bytes-start
-    part-from-bytes-end
-    from-bytes-requires
-    enum-known-field
+    (λ c. search needs)
+    (λ c κs. search needs)
+    (λ c. search needs)
     read-body-requires
-    enum-known-refusal
-    returns-2
+    (λ c. search needs)
+    (λ c. search needs)
     returns-3)

@@ -1,5 +1,4 @@
 -- `total_of` meets its contract: at each `return` the tests that led there say which law of `frameLength` holds.
--- Assumes nothing.
 use mathlib.Core.Path.{_≡_, ap, sym, _∙_}
 use mathlib.Core.Bool.{false}
 use Prim.Native.Nat.{ℕ, _+_}
@@ -25,9 +24,6 @@ besidesOf k h = needed h (k .«data_field_header») (k .«has_fecf»)
 besides : (d : tie.After-needed-len) → let k = d .before .before .before .before .before .before .args .frame in d .needed-len .result ≡ besidesOf k (flagged k)
 besides d = d .needed-len .ensures ∙ ap (besidesOf (d .before .before .before .before .before .before .args .frame)) (d .before .before .with-ocf-flag .ensures)
 
-ocf-missing-requires : tie.Need-ocf-missing-requires
-ocf-missing-requires c κs = search needs
-
 returns : tie.Need-returns
 returns c =
     let a = c .before .before in
@@ -37,12 +33,6 @@ returns-2 : tie.Need-returns-2
 returns-2 c =
     let a = c .before .before .before in
     sym (length-long (a .args .frame) (a .args .data-len) (a .pre .0) (a .pre .1) (given (c .before)) (omega (arith, c .if2 .taken)))
-
-with-ocf-flag-requires : tie.Need-with-ocf-flag-requires
-with-ocf-flag-requires c κs = search needs
-
-needed-len-requires : tie.Need-needed-len-requires
-needed-len-requires c κs = search needs
 
 add-total : tie.Need-add-total
 add-total c =
@@ -74,11 +64,11 @@ pub total-of-spec : {M : Type 1} → statement M
 total-of-spec =
     tie.close
     (tie.spec
-    ocf-missing-requires
+    (λ c κs. search needs)
     returns
     returns-2
-    with-ocf-flag-requires
-    needed-len-requires
+    (λ c κs. search needs)
+    (λ c κs. search needs)
     add-total
     returns-3
     returns-4)

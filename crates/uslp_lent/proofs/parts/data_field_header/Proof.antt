@@ -5,15 +5,6 @@ use borrow.Author.Needs.{needs}
 use Rattle.uslp_lent.proofs.parts.data_field_header.Statement.{statement}
 use Rattle.uslp_lent.proofs.parts.data_field_header.Tie as tie
 
-enum-known-answer : tie.Need-enum-known-answer
-enum-known-answer c = search needs
-
-data-field-header-requires : tie.Need-data-field-header-requires
-data-field-header-requires c κs = search needs
-
-enum-known-answer-2 : tie.Need-enum-known-answer-2
-enum-known-answer-2 c = search needs
-
 returns : tie.Need-returns
 returns c = done-arm (λ (x : TransferFrame). x .«data_field_header») _ _ _ (c .before .before .answer .given .1) (c .data-field-header .ensures)
 
@@ -23,4 +14,4 @@ returns-2 c = refused-arm (λ (x : TransferFrame). x .«data_field_header») _ _
 pub data-field-header-spec : {M : Type 1} → statement M
 data-field-header-spec =
     tie.close
-    (tie.spec enum-known-answer data-field-header-requires enum-known-answer-2 returns returns-2)
+    (tie.spec (λ c. search needs) (λ c κs. search needs) (λ c. search needs) returns returns-2)

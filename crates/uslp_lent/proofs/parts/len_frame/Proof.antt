@@ -6,15 +6,6 @@ use borrow.Author.Needs.{needs}
 use Rattle.uslp_lent.proofs.parts.len_frame.Statement.{statement}
 use Rattle.uslp_lent.proofs.parts.len_frame.Tie as tie
 
-enum-known-answer : tie.Need-enum-known-answer
-enum-known-answer c = search needs
-
-len-frame-requires : tie.Need-len-frame-requires
-len-frame-requires c κs = search needs
-
-enum-known-answer-2 : tie.Need-enum-known-answer-2
-enum-known-answer-2 c = search needs
-
 returns : tie.Need-returns
 returns c = done-arm (λ (x : TransferFrame). lenFrame (x .«primary_header»)) _ _ _ (c .before .before .answer .given .1) (c .len-frame .ensures)
 
@@ -23,4 +14,4 @@ returns-2 c = refused-arm (λ (x : TransferFrame). lenFrame (x .«primary_header
 
 pub len-frame-spec : {M : Type 1} → statement M
 len-frame-spec =
-    tie.close (tie.spec enum-known-answer len-frame-requires enum-known-answer-2 returns returns-2)
+    tie.close (tie.spec (λ c. search needs) (λ c κs. search needs) (λ c. search needs) returns returns-2)

@@ -5,15 +5,6 @@ use borrow.Author.Needs.{needs}
 use Rattle.uslp_lent.proofs.parts.operational_control_field.Statement.{statement}
 use Rattle.uslp_lent.proofs.parts.operational_control_field.Tie as tie
 
-enum-known-answer : tie.Need-enum-known-answer
-enum-known-answer c = search needs
-
-operational-control-field-requires : tie.Need-operational-control-field-requires
-operational-control-field-requires c κs = search needs
-
-enum-known-answer-2 : tie.Need-enum-known-answer-2
-enum-known-answer-2 c = search needs
-
 returns : tie.Need-returns
 returns c = done-arm (λ (x : TransferFrame). x .«operational_control_field») _ _ _ (c .before .before .answer .given .1) (c .operational-control-field .ensures)
 
@@ -24,8 +15,8 @@ pub operational-control-field-spec : {M : Type 1} → statement M
 operational-control-field-spec =
     tie.close
     (tie.spec
-    enum-known-answer
-    operational-control-field-requires
-    enum-known-answer-2
+    (λ c. search needs)
+    (λ c κs. search needs)
+    (λ c. search needs)
     returns
     returns-2)

@@ -5,15 +5,6 @@ use borrow.Author.Needs.{needs}
 use Rattle.uslp_lent.proofs.parts.primary_header.Statement.{statement}
 use Rattle.uslp_lent.proofs.parts.primary_header.Tie as tie
 
-enum-known-answer : tie.Need-enum-known-answer
-enum-known-answer c = search needs
-
-primary-header-requires : tie.Need-primary-header-requires
-primary-header-requires c κs = search needs
-
-enum-known-answer-2 : tie.Need-enum-known-answer-2
-enum-known-answer-2 c = search needs
-
 returns : tie.Need-returns
 returns c = done-arm (λ (x : TransferFrame). x .«primary_header») _ _ _ (c .before .before .answer .given .1) (c .primary-header .ensures)
 
@@ -23,4 +14,4 @@ returns-2 c = refused-arm (λ (x : TransferFrame). x .«primary_header») _ _ (c
 pub primary-header-spec : {M : Type 1} → statement M
 primary-header-spec =
     tie.close
-    (tie.spec enum-known-answer primary-header-requires enum-known-answer-2 returns returns-2)
+    (tie.spec (λ c. search needs) (λ c κs. search needs) (λ c. search needs) returns returns-2)

@@ -5,15 +5,6 @@ use borrow.Author.Needs.{needs}
 use Rattle.uslp_lent.proofs.parts.source_or_dest_field.Statement.{statement}
 use Rattle.uslp_lent.proofs.parts.source_or_dest_field.Tie as tie
 
-enum-known-answer : tie.Need-enum-known-answer
-enum-known-answer c = search needs
-
-source-or-dest-field-requires : tie.Need-source-or-dest-field-requires
-source-or-dest-field-requires c κs = search needs
-
-enum-known-answer-2 : tie.Need-enum-known-answer-2
-enum-known-answer-2 c = search needs
-
 returns : tie.Need-returns
 returns c = done-arm (λ (x : TransferFrame). x .«primary_header» .«source_or_dest_field») _ _ _ (c .before .before .answer .given .1) (c .source-or-dest-field .ensures)
 
@@ -24,8 +15,8 @@ pub source-or-dest-field-spec : {M : Type 1} → statement M
 source-or-dest-field-spec =
     tie.close
     (tie.spec
-    enum-known-answer
-    source-or-dest-field-requires
-    enum-known-answer-2
+    (λ c. search needs)
+    (λ c κs. search needs)
+    (λ c. search needs)
     returns
     returns-2)

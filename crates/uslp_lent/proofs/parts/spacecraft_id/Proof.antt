@@ -6,12 +6,6 @@ use borrow.Author.Needs.{needs}
 use Rattle.uslp_lent.proofs.parts.spacecraft_id.Statement.{statement}
 use Rattle.uslp_lent.proofs.parts.spacecraft_id.Tie as tie
 
-enum-known-answer : tie.Need-enum-known-answer
-enum-known-answer c = search needs
-
-enum-known-answer-2 : tie.Need-enum-known-answer-2
-enum-known-answer-2 c = search needs
-
 returns : tie.Need-returns
 returns c = done-arm (λ (x : TransferFrame). x .«primary_header» .«spacecraft_id») _ _ _ (c .before .answer .given .1) refl
 
@@ -19,4 +13,4 @@ returns-2 : tie.Need-returns-2
 returns-2 c = refused-arm (λ (x : TransferFrame). x .«primary_header» .«spacecraft_id») _ _ (c .before .answer2 .given .1)
 
 pub spacecraft-id-spec : {M : Type 1} → statement M
-spacecraft-id-spec = tie.close (tie.spec enum-known-answer enum-known-answer-2 returns returns-2)
+spacecraft-id-spec = tie.close (tie.spec (λ c. search needs) (λ c. search needs) returns returns-2)

@@ -5,14 +5,8 @@ use borrow.Author.Needs.{needs}
 use Rattle.uslp_lent.proofs.setters.decide_frame_len.Statement.{statement}
 use Rattle.uslp_lent.proofs.setters.decide_frame_len.Tie as tie
 
-with-frame-len-requires : tie.Need-with-frame-len-requires
-with-frame-len-requires c κs = search needs
-
-settle-requires : tie.Need-settle-requires
-settle-requires c κs = search needs
-
 returns : tie.Need-returns
 returns c = (c .settle .ensures .0 ∙ ap (headerLeft _) (c .before .with-frame-len .ensures), c .settle .ensures .1 ∙ ap headerOff (c .before .with-frame-len .ensures))
 
 pub decide-frame-len-spec : {M : Type 1} → statement M
-decide-frame-len-spec = tie.close (tie.spec with-frame-len-requires settle-requires returns)
+decide-frame-len-spec = tie.close (tie.spec (λ c κs. search needs) (λ c κs. search needs) returns)

@@ -5,14 +5,8 @@ use borrow.Author.Needs.{needs}
 use Rattle.uslp_lent.proofs.setters.decide_vc_frame_count.Statement.{statement}
 use Rattle.uslp_lent.proofs.setters.decide_vc_frame_count.Tie as tie
 
-with-vc-frame-count-requires : tie.Need-with-vc-frame-count-requires
-with-vc-frame-count-requires c κs = search needs
-
-settle-requires : tie.Need-settle-requires
-settle-requires c κs = search needs
-
 returns : tie.Need-returns
 returns c = (c .settle .ensures .0 ∙ ap (headerLeft _) (c .before .with-vc-frame-count .ensures), c .settle .ensures .1 ∙ ap headerOff (c .before .with-vc-frame-count .ensures))
 
 pub decide-vc-frame-count-spec : {M : Type 1} → statement M
-decide-vc-frame-count-spec = tie.close (tie.spec with-vc-frame-count-requires settle-requires returns)
+decide-vc-frame-count-spec = tie.close (tie.spec (λ c κs. search needs) (λ c κs. search needs) returns)

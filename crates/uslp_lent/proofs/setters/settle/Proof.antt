@@ -6,12 +6,6 @@ use borrow.Author.Needs.{needs}
 use Rattle.uslp_lent.proofs.setters.settle.Statement.{statement}
 use Rattle.uslp_lent.proofs.setters.settle.Tie as tie
 
-enum-known-outcome : tie.Need-enum-known-outcome
-enum-known-outcome c = search needs
-
-enum-known-outcome-2 : tie.Need-enum-known-outcome-2
-enum-known-outcome-2 c = search needs
-
 returns : tie.Need-returns
 returns c = (
   sym (ap (λ o. headerLeft (c .before .before .before .args .header) (paperHeader o)) (c .before .outcome .given .1)),
@@ -25,4 +19,4 @@ returns-2 c = (
 )
 
 pub settle-spec : {M : Type 1} → statement M
-settle-spec = tie.close (tie.spec enum-known-outcome enum-known-outcome-2 returns returns-2)
+settle-spec = tie.close (tie.spec (λ c. search needs) (λ c. search needs) returns returns-2)

@@ -1,5 +1,4 @@
 -- `TransferFrame::from_bytes` meets its contract: what the header's reading says decides.
--- Assumes nothing.
 use mathlib.Core.Path.{ap, sym, _∙_}
 use Rattle.uslp_primary_header.specs.Header.{paperHeader}
 use Rattle.uslp_reader.proofs.Paths.{reading-header}
@@ -7,20 +6,8 @@ use borrow.Author.Needs.{needs}
 use Rattle.uslp_reader.proofs.TransferFrame.from_bytes.Statement.{statement}
 use Rattle.uslp_reader.proofs.TransferFrame.from_bytes.Tie as tie
 
-from-bytes-requires : tie.Need-from-bytes-requires
-from-bytes-requires c κs = search needs
-
-enum-known-header : tie.Need-enum-known-header
-enum-known-header c = search needs
-
 read-whole-requires : tie.Need-read-whole-requires
 read-whole-requires c κs = sym (c .before .before .before .from-bytes .ensures) ∙ ap paperHeader (c .before .header .given .1)
-
-enum-known-refusal : tie.Need-enum-known-refusal
-enum-known-refusal c = search needs
-
-returns : tie.Need-returns
-returns c = search needs
 
 returns-2 : tie.Need-returns-2
 returns-2 c = sym (reading-header _ _ (sym (c .before .before .before .from-bytes .ensures) ∙ ap paperHeader (c .before .refusal .given .1)))
@@ -29,9 +16,9 @@ pub from-bytes-spec : {M : Type 1} → statement M
 from-bytes-spec =
     tie.close
     (tie.spec
-    from-bytes-requires
-    enum-known-header
+    (λ c κs. search needs)
+    (λ c. search needs)
     read-whole-requires
-    enum-known-refusal
-    returns
+    (λ c. search needs)
+    (λ c. search needs)
     returns-2)

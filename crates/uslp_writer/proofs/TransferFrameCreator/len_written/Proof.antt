@@ -1,5 +1,4 @@
 -- `len_written` meets its contract: the first header that does not pass decides, and then the total.
--- Assumes nothing.
 use mathlib.Core.Path.{_≡_, ap, sym, _∙_}
 use Rattle.uslp_kinds.specs.Outcome.{done}
 use Rattle.uslp_primary_header.specs.Header.{paperHeader, headerChecking}
@@ -12,24 +11,6 @@ use Rattle.uslp_writer.proofs.TransferFrameCreator.len_written.Tie as t
 -- in the second match the header has passed
 passes : (d : tie.After-enum-told) → let h = d .before .before .before .before .before .args .self .«primary_header» in headerChecking h ≡ done h
 passes d = header-self _ _ (sym (d .before .before .checked .ensures) ∙ ap paperHeader (d .enum-told .given .1))
-
-checked-requires : tie.Need-checked-requires
-checked-requires c κs = search needs
-
-enum-known-refusal : tie.Need-enum-known-refusal
-enum-known-refusal c = search needs
-
-enum-told : tie.Need-enum-told
-enum-told c = search needs
-
-checked-requires-2 : tie.Need-checked-requires-2
-checked-requires-2 c κs = search needs
-
-enum-known-refusal-2 : tie.Need-enum-known-refusal-2
-enum-known-refusal-2 c = search needs
-
-enum-told-2 : tie.Need-enum-told-2
-enum-told-2 c = search needs
 
 total-of-requires : tie.Need-total-of-requires
 total-of-requires c κs =
@@ -47,20 +28,17 @@ returns-2 c =
     (length-field (a .args .self) (a .args .data-len) (passes (c .before .before .before .before))
     (sym (c .before .before .before .checked2 .ensures) ∙ ap paperField (c .before .refusal2 .given .1)))
 
-returns-3 : tie.Need-returns-3
-returns-3 c = search needs
-
 pub len-written-spec : {M : Type 1} → statement M
 len-written-spec =
     tie.close
     (tie.spec
-    checked-requires
-    enum-known-refusal
-    enum-told
-    checked-requires-2
-    enum-known-refusal-2
-    enum-told-2
+    (λ c κs. search needs)
+    (λ c. search needs)
+    (λ c. search needs)
+    (λ c κs. search needs)
+    (λ c. search needs)
+    (λ c. search needs)
     total-of-requires
     returns
     returns-2
-    returns-3)
+    (λ c. search needs))

@@ -1,5 +1,4 @@
 -- `finish` meets its contract: a length that is given has room for the FECF.
--- Assumes nothing.
 use mathlib.Core.Path.{_≡_, ap, sym, _∙_}
 use lib.ListN.{length}
 use Rattle.uslp_kinds.specs.Outcome.{done, leaving}
@@ -16,20 +15,8 @@ given : (d : tie.After-finish-len) {x : LengthAnswer} → d .finish-len .result 
     → finishLength (d .before .before .args .self) (length (d .before .before .args .buf .now)) ≡ paperLength x
 given d e = sym (d .finish-len .ensures) ∙ ap paperLength e
 
-finish-len-requires : tie.Need-finish-len-requires
-finish-len-requires c κs = search needs
-
-enum-known-refusal : tie.Need-enum-known-refusal
-enum-known-refusal c = search needs
-
-enum-known-total : tie.Need-enum-known-total
-enum-known-total c = search needs
-
 put-fecf-requires : tie.Need-put-fecf-requires
 put-fecf-requires c κs = fecf-room _ _ (given (c .before .before .before .before .before) (c .before .before .before .total .given .1)) (c .before .if1 .taken)
-
-same-length : tie.Need-same-length
-same-length c = search needs
 
 returns : tie.Need-returns
 returns c =
@@ -52,11 +39,11 @@ pub finish-spec : {M : Type 1} → statement M
 finish-spec =
     tie.close
     (tie.spec
-    finish-len-requires
-    enum-known-refusal
-    enum-known-total
+    (λ c κs. search needs)
+    (λ c. search needs)
+    (λ c. search needs)
     put-fecf-requires
-    same-length
+    (λ c. search needs)
     returns
     returns-2
     returns-3)

@@ -1,5 +1,4 @@
 -- `new` meets its contract: the length decides, then the buffer.
--- Assumes nothing.
 use mathlib.Core.Path.{_≡_, ap, ap₂, sym, _∙_}
 use mathlib.Core.List.{List}
 use Prim.Native.Nat.{ℕ}
@@ -17,15 +16,6 @@ use Rattle.uslp_writer.proofs.TransferFrameCreatorWithReservedData.new.
 given : (d : tie.After-len-written) {x : LengthAnswer} → d .len-written .result ≡ x → frameLength (d .before .before .args .frame) (d .before .before .args .data-size) ≡ paperLength x
 given d e = sym (d .len-written .ensures) ∙ ap paperLength e
 
-len-written-requires : tie.Need-len-written-requires
-len-written-requires c κs = search needs
-
-enum-known-refusal : tie.Need-enum-known-refusal
-enum-known-refusal c = search needs
-
-enum-known-expected : tie.Need-enum-known-expected
-enum-known-expected c = search needs
-
 returns : tie.Need-returns
 returns c =
     let a = c .before .before .before .before .before .before in
@@ -39,9 +29,6 @@ returns-2 c =
     let a = c .before .before .before .before .before in
     sym (reserving-refused (a .args .frame) (a .args .data-size) (a .args .buf .now) (given (c .before .before .before) (c .before .refusal .given .1)))
 
-same-length : tie.Need-same-length
-same-length c = search needs
-
 returns-3 : tie.Need-returns-3
 returns-3 c =
     let a = c .before .before .before .before .before .before .before .before .before .before in
@@ -54,11 +41,11 @@ pub new-spec : {M : Type 1} → statement M
 new-spec =
     tie.close
     (tie.spec
-    len-written-requires
-    enum-known-refusal
-    enum-known-expected
+    (λ c κs. search needs)
+    (λ c. search needs)
+    (λ c. search needs)
     returns
     put-reserved-requires
     returns-2
-    same-length
+    (λ c. search needs)
     returns-3)

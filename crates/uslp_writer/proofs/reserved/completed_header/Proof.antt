@@ -1,5 +1,4 @@
 -- `completed_header` meets its contract: a total of at most 65,536 is not refused.
--- Assumes nothing.
 use mathlib.Core.Path.{_≡_, ap, sym, _∙_}
 use Rattle.uslp_kinds.specs.Outcome.{done}
 use Rattle.uslp_kinds.proofs.Outcomes.{not-done, done-one}
@@ -19,18 +18,6 @@ set d =
     ∙ length-done _ (a .args .total) (a .pre)
     ∙ ap (λ (h : PrimaryHeader). done (withLength (a .args .total) h)) (d .before .with-ocf-flag .ensures)
 
-with-ocf-flag-requires : tie.Need-with-ocf-flag-requires
-with-ocf-flag-requires c κs = search needs
-
-with-frame-len-requires : tie.Need-with-frame-len-requires
-with-frame-len-requires c κs = search needs
-
-enum-known-completed : tie.Need-enum-known-completed
-enum-known-completed c = search needs
-
-enum-told : tie.Need-enum-told
-enum-told c = search needs
-
 returns : tie.Need-returns
 returns c = done-one (sym (ap paperHeader (c .before .completed .given .1)) ∙ set (c .before .before .before))
 
@@ -41,9 +28,9 @@ pub completed-header-spec : {M : Type 1} → statement M
 completed-header-spec =
     tie.close
     (tie.spec
-    with-ocf-flag-requires
-    with-frame-len-requires
-    enum-known-completed
-    enum-told
+    (λ c κs. search needs)
+    (λ c κs. search needs)
+    (λ c. search needs)
+    (λ c. search needs)
     returns
     returns-2)

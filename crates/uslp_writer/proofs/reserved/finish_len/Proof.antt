@@ -1,5 +1,4 @@
 -- `finish_len` meets its contract: at each `return` the tests that led there say which law of `finishLength` holds.
--- Assumes nothing.
 use mathlib.Core.Path.{sym}
 use Prim.Native.Nat.{_≤_}
 use native.Mathlib.Omega.{arith}
@@ -30,12 +29,6 @@ returns-3 : tie.Need-returns-3
 returns-3 c =
     let a = c .before .before .before .before .before in
     sym (finish-claims (a .args .frame) (a .args .found) (c .before .before .before .before .if1 .left) (omega (arith, c .if3 .taken)))
-
-add-needed : tie.Need-add-needed
-add-needed c = search needs
-
-fecf-len-requires : tie.Need-fecf-len-requires
-fecf-len-requires c κs = search needs
 
 add-needed-2 : tie.Need-add-needed-2
 add-needed-2 c =
@@ -74,8 +67,8 @@ finish-len-spec =
     returns
     returns-2
     returns-3
-    add-needed
-    fecf-len-requires
+    (λ c. search needs)
+    (λ c κs. search needs)
     add-needed-2
     returns-4
     returns-5

@@ -1,5 +1,4 @@
 -- `put_headers` meets its contract: one header is written, and the other into what stands behind it.
--- Assumes nothing.
 use mathlib.Core.Path.{_≡_, ap, _∙_}
 use Prim.Native.Nat.{_≤_}
 use native.Mathlib.Omega.{arith}
@@ -25,32 +24,11 @@ within d =
       first-length (a .args .frame) (a .args .total) (a .args .buf .now) (a .pre .0) (a .pre .1) (a .pre .3) made (d .write-to-slice .ensures),
     )
 
-completed-header-requires : tie.Need-completed-header-requires
-completed-header-requires c κs = search needs
-
-len-header-requires : tie.Need-len-header-requires
-len-header-requires c κs = search needs
-
-write-to-slice-requires : tie.Need-write-to-slice-requires
-write-to-slice-requires c κs = search needs
-
 sub-write-to-slice : tie.Need-sub-write-to-slice
 sub-write-to-slice c = within (c .before .before)
 
 part-write-to-slice-start : tie.Need-part-write-to-slice-start
 part-write-to-slice-start c = within (c .before .before)
-
-part-write-to-slice-end : tie.Need-part-write-to-slice-end
-part-write-to-slice-end c = search needs
-
-write-to-slice-requires-2 : tie.Need-write-to-slice-requires-2
-write-to-slice-requires-2 c κs = search needs
-
-data-start-requires : tie.Need-data-start-requires
-data-start-requires c κs = search needs
-
-same-length : tie.Need-same-length
-same-length c = search needs
 
 returns : tie.Need-returns
 returns c =
@@ -70,13 +48,13 @@ pub put-headers-spec : {M : Type 1} → statement M
 put-headers-spec =
     tie.close
     (tie.spec
-    completed-header-requires
-    len-header-requires
-    write-to-slice-requires
+    (λ c κs. search needs)
+    (λ c κs. search needs)
+    (λ c κs. search needs)
     sub-write-to-slice
     part-write-to-slice-start
-    part-write-to-slice-end
-    write-to-slice-requires-2
-    data-start-requires
-    same-length
+    (λ c. search needs)
+    (λ c κs. search needs)
+    (λ c κs. search needs)
+    (λ c. search needs)
     returns)

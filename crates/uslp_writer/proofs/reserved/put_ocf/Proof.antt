@@ -1,5 +1,4 @@
 -- `put_ocf` meets its contract: four octets are put, or none.
--- Assumes nothing.
 use native.Mathlib.Omega.{arith}
 use lib.ListN.{length}
 use Rattle.uslp_layout.specs.Layout.{ocfOctets}
@@ -9,34 +8,10 @@ use borrow.Author.Needs.{needs}
 use Rattle.uslp_writer.proofs.reserved.put_ocf.Statement.{statement}
 use Rattle.uslp_writer.proofs.reserved.put_ocf.Tie as tie
 
-enum-known-ocf : tie.Need-enum-known-ocf
-enum-known-ocf c = search needs
-
-add-end : tie.Need-add-end
-add-end c = search needs
-
-cast-put-number : tie.Need-cast-put-number
-cast-put-number c = search needs
-
-sub-put-number : tie.Need-sub-put-number
-sub-put-number c = search needs
-
-part-put-number-start : tie.Need-part-put-number-start
-part-put-number-start c = search needs
-
 part-put-number-end : tie.Need-part-put-number-end
 part-put-number-end c =
     let a = c .before .before .before .before in
     omega (arith, ap (λ x. length (ocfOctets x)) (c .before .ocf .given .1), a .pre)
-
-put-number-requires : tie.Need-put-number-requires
-put-number-requires c κs = search needs
-
-enum-told : tie.Need-enum-told
-enum-told c = search needs
-
-same-length : tie.Need-same-length
-same-length c = search needs
 
 returns : tie.Need-returns
 returns c =
@@ -52,14 +27,14 @@ pub put-ocf-spec : {M : Type 1} → statement M
 put-ocf-spec =
     tie.close
     (tie.spec
-    enum-known-ocf
-    add-end
-    cast-put-number
-    sub-put-number
-    part-put-number-start
+    (λ c. search needs)
+    (λ c. search needs)
+    (λ c. search needs)
+    (λ c. search needs)
+    (λ c. search needs)
     part-put-number-end
-    put-number-requires
-    enum-told
-    same-length
+    (λ c κs. search needs)
+    (λ c. search needs)
+    (λ c. search needs)
     returns
     returns-2)

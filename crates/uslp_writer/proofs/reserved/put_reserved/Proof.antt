@@ -1,5 +1,4 @@
 -- `put_reserved` meets its contract: both headers, and the OCF behind the data area.
--- Assumes nothing.
 use native.Mathlib.Omega.{arith}
 use Rattle.uslp_writer.proofs.Reserves.{put-ready, end-in, ocf-in, reserved-put}
 use borrow.Author.Needs.{needs}
@@ -23,9 +22,6 @@ put-ocf-requires c κs =
     let p = c .before .before .before .put-headers .ensures in
     ocf-in (a .args .frame) (a .args .data-size) _ (a .args .buf .now) (a .pre .0) (a .pre .1) _ _ (p .0) (p .1)
 
-same-length : tie.Need-same-length
-same-length c = search needs
-
 returns : tie.Need-returns
 returns c =
     let a = c .before .before .before .before .before .before .before .before .before in
@@ -34,4 +30,4 @@ returns c =
 
 pub put-reserved-spec : {M : Type 1} → statement M
 put-reserved-spec =
-    tie.close (tie.spec put-headers-requires add-end put-ocf-requires same-length returns)
+    tie.close (tie.spec put-headers-requires add-end put-ocf-requires (λ c. search needs) returns)
