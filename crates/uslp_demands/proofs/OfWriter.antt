@@ -143,7 +143,7 @@ reserved-data-mut-shows = record { total = λ κs a. tt; same = λ κs a x y s t
 abbrev second : TransferFrameCreatorWithReservedData
 second = record { «data_index» = 1; «data_size» = 1; «len_written» = 2; «has_fecf» = false }
 
-pub reserved-data-mut-early : (r : RefT (List ℕ)) → r .ptr ≡ (0, 0) → Allows fn-data-mut ([], tt) (second, (at (7 ∷ 7 ∷ []), tt)) (r, (tt, (7 ∷ 7 ∷ [], tt))) → ⊥
+pub reserved-data-mut-early : (r : RefT (List ℕ)) → r .ptr ≡ (0, 0) → Allows fn-data-mut ([], tt) (second, (at (7 ∷ 7 ∷ []), tt)) (r, (tt, (tt, tt))) → ⊥
 unfolding finishLength
 reserved-data-mut-early r h e = let z : _≡_ {A = ℕ} 0 1 = ap (λ (p : ℕ × ℕ). p .1) (sym h ∙ e .lies) in omega arith
 
