@@ -78,14 +78,16 @@ module _ (r : Refusal) (s : RefT (List ℕ)) (left : List ℕ) where
       → left ≡ now s
   unfolding headerWriting
   header-kept κs h e =
-      refused-keeps (firstOf (headerChecks h ++ short (now s) (lenHeader h)) (done (lenHeader h))) (pack (table 0 h) ++ drop (lenHeader h) (now s)) (now s) (sym e)
+      refused-keeps (firstOf (headerChecks h ++ short (now s) (lenHeader h)) (done (lenHeader h))) (pack (table 0 h) ++ drop (lenHeader h) (now s))
+      (now s) (sym e)
 
   pub field-kept : (κs : Lfts 1) (f : TransferFrameDataFieldHeader)
       → Allows fn-transfer-frame-data-field-header-write-to-slice κs (f, (s, tt)) (Refused r, (tt, (left, tt)))
       → left ≡ now s
   unfolding fieldWriting
   field-kept κs f e =
-      refused-keeps (firstOf (fieldChecks f ++ short (now s) (lenField f)) (done (lenField f))) (pack (fieldTable f) ++ drop (lenField f) (now s)) (now s) (sym e)
+      refused-keeps (firstOf (fieldChecks f ++ short (now s) (lenField f)) (done (lenField f))) (pack (fieldTable f) ++ drop (lenField f) (now s))
+      (now s) (sym e)
 
   pub frame-kept : (κs : Lfts 2) (c : TransferFrameCreator) (d : RefT (List ℕ))
       → Allows fn-transfer-frame-creator-write-to-slice κs (c, (d, (s, tt))) (Refused r, (tt, (tt, (left, tt))))
@@ -121,7 +123,8 @@ module _ (r : Refusal) (s : RefT (List ℕ)) (left : List ℕ) where
       → left ≡ now s
   unfolding listingOver
   list-kept κs recording e =
-      refused-keeps (firstOf (short (now s) room) (done (length (listing (now recording))))) (listing (now recording) ++ drop (length (listing (now recording))) (now s)) (now s)
+      refused-keeps (firstOf (short (now s) room) (done (length (listing (now recording)))))
+      (listing (now recording) ++ drop (length (listing (now recording))) (now s)) (now s)
       (sym e)
 
 -- a setter over a lent header leaves what its decision says: on a refusal the header that it found

@@ -65,7 +65,11 @@ abbrev odd : TransferFrameDataFieldHeader
 odd = record { «construction_rule» = NoSegmentation; «uslp_protocol_id» = UserDefinedOctetStream; «fhp_or_lvo» = Present 1 }
 
 pub new-settles : Settles fn-new
-new-settles = record { total = λ κs a. tt; same = λ κs a x y s t. alike (one-to-one paperField (back field-answer.Done field-answer.Refused) field-back (s ∙ sym t)) refl }
+new-settles = record {
+  total = λ κs a. tt;
+  same = λ κs a x y s t. alike
+      (one-to-one paperField (back field-answer.Done field-answer.Refused) field-back (s ∙ sym t)) refl;
+}
 
 -- takes any pointer
 pub new-lax : Allows fn-new tt (NoSegmentation, (UserDefinedOctetStream, (Present 1, tt))) (field-answer.Done odd, (tt, (tt, (tt, tt)))) → ⊥
@@ -73,7 +77,8 @@ unfolding fieldMaking
 new-lax e = let z : _≡_ {A = ℕ} 0 1 = cc in omega arith
 
 -- wants no pointer with rule 0
-pub new-strict : Allows fn-new tt (PacketSpanningMultipleFrames, (Idle, (Present 0x0AF0, tt))) (field-answer.Refused (BadPointer PacketSpanningMultipleFrames), (tt, (tt, (tt, tt)))) → ⊥
+pub new-strict : Allows fn-new tt (PacketSpanningMultipleFrames, (Idle, (Present 0x0AF0, tt)))
+    (field-answer.Refused (BadPointer PacketSpanningMultipleFrames), (tt, (tt, (tt, tt)))) → ⊥
 unfolding fieldMaking
 new-strict e = let z : _≡_ {A = ℕ} 0 1 = cc in omega arith
 
@@ -122,7 +127,11 @@ pub len-header-three : Allows fn-len-header tt (whole, tt) (3, (tt, tt)) → ⊥
 len-header-three e = omega arith
 
 pub checked-settles : Settles fn-checked
-checked-settles = record { total = λ κs a. tt; same = λ κs a x y s t. alike (one-to-one paperField (back field-answer.Done field-answer.Refused) field-back (s ∙ sym t)) refl }
+checked-settles = record {
+  total = λ κs a. tt;
+  same = λ κs a x y s t. alike
+      (one-to-one paperField (back field-answer.Done field-answer.Refused) field-back (s ∙ sym t)) refl;
+}
 
 -- passes every header
 pub checked-lax : Allows fn-checked tt (odd, tt) (field-answer.Done odd, (tt, tt)) → ⊥
@@ -135,7 +144,11 @@ unfolding fieldChecking
 checked-all e = let z : _≡_ {A = ℕ} 0 1 = cc in omega arith
 
 pub from-bytes-settles : Settles fn-from-bytes
-from-bytes-settles = record { total = λ κs a. tt; same = λ κs a x y s t. alike (one-to-one paperField (back field-answer.Done field-answer.Refused) field-back (s ∙ sym t)) refl }
+from-bytes-settles = record {
+  total = λ κs a. tt;
+  same = λ κs a x y s t. alike
+      (one-to-one paperField (back field-answer.Done field-answer.Refused) field-back (s ∙ sym t)) refl;
+}
 
 -- asks for three octets of every rule
 pub from-bytes-early : Allows fn-from-bytes ([], tt) (at (0xE4 ∷ []), tt) (field-answer.Refused (ShortSource 1 3), (tt, tt)) → ⊥
@@ -148,7 +161,11 @@ unfolding fieldReading
 from-bytes-protocol e = let z : _≡_ {A = ℕ} 0 1 = cc in omega arith
 
 pub write-to-slice-settles : Settles fn-write-to-slice
-write-to-slice-settles = record { total = λ κs a. tt; same = λ κs a x y s t. let e = leaving-one (s ∙ sym t) in alike (one-to-one paperLength (back length-answer.Done length-answer.Refused) length-back (e .0)) (λ i. (tt, (e .1 i, tt))) }
+write-to-slice-settles = record {
+  total = λ κs a. tt;
+  same = λ κs a x y s t. let e = leaving-one (s ∙ sym t) in
+      alike (one-to-one paperLength (back length-answer.Done length-answer.Refused) length-back (e .0)) (λ i. (tt, (e .1 i, tt)));
+}
 
 -- writes nothing and says done
 pub write-to-slice-idle : Allows fn-write-to-slice ([], tt) (whole, (at (0 ∷ []), tt)) (length-answer.Done 1, (tt, (0 ∷ [], tt))) → ⊥

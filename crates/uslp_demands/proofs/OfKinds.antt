@@ -177,7 +177,8 @@ pub applicable-none : Allows fn-applicable-to-fixed-len-tfdz tt (PacketSpanningM
 applicable-none e = let z : _≡_ {A = ℕ} 0 1 = cc in omega arith
 
 pub protocol-from-settles : Settles fn-uslp-protocol-id-from-number
-protocol-from-settles = record { total = λ κs a. tt; same = λ κs a x y s t. alike (one-to-one paperProtocol (back Done Refused) protocol-back (s ∙ sym t)) refl }
+protocol-from-settles = record
+    { total = λ κs a. tt; same = λ κs a x y s t. alike (one-to-one paperProtocol (back Done Refused) protocol-back (s ∙ sym t)) refl }
 
 -- an unknown id taken as idle
 pub protocol-from-idle : Allows fn-uslp-protocol-id-from-number tt (9, tt) (Done Idle, (tt, tt)) → ⊥

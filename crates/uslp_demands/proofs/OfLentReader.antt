@@ -64,7 +64,8 @@ pub from-bytes-settles : Settles reader.from_bytes.ended (λ M. reader.from_byte
 from-bytes-settles =
     by-fact _ _
     (λ κs a x y s t.
-    let e = one-to-one paperFrame (back frame-answer.Done frame-answer.Refused) frame-back {x = x .0 .found .answer} {y = y .0 .found .answer} (s .1 ∙ sym (t .1)) in
+    let e = one-to-one paperFrame (back frame-answer.Done frame-answer.Refused) frame-back {x = x .0 .found .answer} {y = y .0 .found .answer}
+    (s .1 ∙ sym (t .1)) in
     alike (λ i. record { raw = (s .0 ∙ sym (t .0)) i; found = record { answer = e i } }) refl)
 
 -- refuses what can be read
@@ -73,7 +74,8 @@ unfolding frameReading headerReading fieldReading
 from-bytes-refuser = shut _ _ (λ e. not-done (e .1))
 
 -- keeps no octets
-pub from-bytes-forgets : ShutsOut reader.from_bytes.ended (λ M. reader.from_bytes.clauses) ([], tt) (at octetsF, (false, tt)) (record { raw = at []; found = read .found }, (tt, (tt, tt)))
+pub from-bytes-forgets : ShutsOut reader.from_bytes.ended (λ M. reader.from_bytes.clauses) ([], tt) (at octetsF, (false, tt))
+    (record { raw = at []; found = read .found }, (tt, (tt, tt)))
 from-bytes-forgets = shut _ _ (λ e. let z : _≡_ {A = ℕ} 0 11 = ap (λ (s : RefT (List ℕ)). length (now s)) (e .0) in omega arith)
 
 pub answer-settles : Settles reader.answer.ended (λ M. reader.answer.clauses)
@@ -101,7 +103,9 @@ pub data-refused : (r : RefT (List ℕ)) → now r ≡ 0x0A ∷ 0xF0 ∷ [] → 
 data-refused r h = shut _ _ (λ e. let z : _≡_ {A = ℕ} 2 0 = ap length (sym h ∙ e .shows) in omega arith)
 
 pub len-frame-settles : Settles reader.len_frame.ended (λ M. reader.len_frame.clauses)
-len-frame-settles = by-fact _ _ (λ κs a x y s t. alike (one-to-one paperLength (back length-answer.Done length-answer.Refused) length-back {x = x .0} {y = y .0} (s ∙ sym t)) refl)
+len-frame-settles = by-fact _ _
+    (λ κs a x y s t. alike (one-to-one paperLength (back length-answer.Done length-answer.Refused) length-back {x = x .0} {y = y .0} (s ∙ sym t))
+    refl)
 
 -- the field as it stands
 pub len-frame-field : ShutsOut reader.len_frame.ended (λ M. reader.len_frame.clauses) ([], tt) (read, tt) (length-answer.Done 10, (tt, tt))
@@ -112,7 +116,8 @@ pub len-frame-zero : ShutsOut reader.len_frame.ended (λ M. reader.len_frame.cla
 len-frame-zero = shut _ _ (λ e. not-done (sym e))
 
 pub primary-header-settles : Settles reader.primary_header.ended (λ M. reader.primary_header.clauses)
-primary-header-settles = by-fact _ _ (λ κs a x y s t. alike (one-to-one paperHeader (back header-answer.Done header-answer.Refused) header-one {x = x .0} {y = y .0} (s ∙ sym t)) refl)
+primary-header-settles = by-fact _ _
+    (λ κs a x y s t. alike (one-to-one paperHeader (back header-answer.Done header-answer.Refused) header-one {x = x .0} {y = y .0} (s ∙ sym t)) refl)
 
 -- the header without its count
 pub primary-header-fresh : ShutsOut reader.primary_header.ended (λ M. reader.primary_header.clauses) ([], tt) (read, tt) (header-answer.Done made, (tt, tt))
@@ -123,25 +128,33 @@ pub primary-header-made-up : ShutsOut reader.primary_header.ended (λ M. reader.
 primary-header-made-up = shut _ _ (λ e. not-done (sym e))
 
 pub data-field-header-settles : Settles reader.data_field_header.ended (λ M. reader.data_field_header.clauses)
-data-field-header-settles = by-fact _ _ (λ κs a x y s t. alike (one-to-one paperField (back field-answer.Done field-answer.Refused) field-back {x = x .0} {y = y .0} (s ∙ sym t)) refl)
+data-field-header-settles = by-fact _ _
+    (λ κs a x y s t. alike (one-to-one paperField (back field-answer.Done field-answer.Refused) field-back {x = x .0} {y = y .0} (s ∙ sym t)) refl)
 
 -- another header
-pub data-field-header-other : ShutsOut reader.data_field_header.ended (λ M. reader.data_field_header.clauses) ([], tt) (read, tt) (field-answer.Done spanning, (tt, tt))
-data-field-header-other = shut _ _ (λ e. let d : PacketSpanningMultipleFrames ≡ NoSegmentation = ap (λ (f : TransferFrameDataFieldHeader). f .«construction_rule») (done-one e) in let z : _≡_ {A = ℕ} 0 1 = cc in omega arith)
+pub data-field-header-other : ShutsOut reader.data_field_header.ended (λ M. reader.data_field_header.clauses) ([], tt) (read, tt)
+    (field-answer.Done spanning, (tt, tt))
+data-field-header-other = shut _ _
+    (λ e. let d : PacketSpanningMultipleFrames ≡ NoSegmentation = ap (λ (f : TransferFrameDataFieldHeader). f .«construction_rule») (done-one e) in
+    let z : _≡_ {A = ℕ} 0 1 = cc in omega arith)
 
 -- a header on a refusal
-pub data-field-header-made-up : ShutsOut reader.data_field_header.ended (λ M. reader.data_field_header.clauses) ([], tt) (unread, tt) (field-answer.Done spanning, (tt, tt))
+pub data-field-header-made-up : ShutsOut reader.data_field_header.ended (λ M. reader.data_field_header.clauses) ([], tt) (unread, tt)
+    (field-answer.Done spanning, (tt, tt))
 data-field-header-made-up = shut _ _ (λ e. not-done (sym e))
 
 pub operational-control-field-settles : Settles reader.operational_control_field.ended (λ M. reader.operational_control_field.clauses)
-operational-control-field-settles = by-fact _ _ (λ κs a x y s t. alike (one-to-one paperOcf (back ocf-answer.Done ocf-answer.Refused) ocf-back {x = x .0} {y = y .0} (s ∙ sym t)) refl)
+operational-control-field-settles = by-fact _ _
+    (λ κs a x y s t. alike (one-to-one paperOcf (back ocf-answer.Done ocf-answer.Refused) ocf-back {x = x .0} {y = y .0} (s ∙ sym t)) refl)
 
 -- an OCF of 0 where there is none
-pub operational-control-field-zero : ShutsOut reader.operational_control_field.ended (λ M. reader.operational_control_field.clauses) ([], tt) (read, tt) (ocf-answer.Done (Present 0), (tt, tt))
+pub operational-control-field-zero : ShutsOut reader.operational_control_field.ended (λ M. reader.operational_control_field.clauses) ([], tt)
+    (read, tt) (ocf-answer.Done (Present 0), (tt, tt))
 operational-control-field-zero = shut _ _ (λ e. let d : Present 0 ≡ Absent = done-one e in let z : _≡_ {A = ℕ} 0 1 = cc in omega arith)
 
 -- no OCF on a refusal
-pub operational-control-field-absent : ShutsOut reader.operational_control_field.ended (λ M. reader.operational_control_field.clauses) ([], tt) (unread, tt) (ocf-answer.Done Absent, (tt, tt))
+pub operational-control-field-absent : ShutsOut reader.operational_control_field.ended (λ M. reader.operational_control_field.clauses) ([], tt)
+    (unread, tt) (ocf-answer.Done Absent, (tt, tt))
 operational-control-field-absent = shut _ _ (λ e. not-done (sym e))
 
 pub vc-id-settles : Settles reader.vc_id.ended (λ M. reader.vc_id.clauses)
@@ -178,25 +191,30 @@ pub spacecraft-id-zero : ShutsOut reader.spacecraft_id.ended (λ M. reader.space
 spacecraft-id-zero = shut _ _ (λ e. not-done (sym e))
 
 pub source-or-dest-field-settles : Settles reader.source_or_dest_field.ended (λ M. reader.source_or_dest_field.clauses)
-source-or-dest-field-settles = by-fact _ _ (λ κs a x y s t. alike (one-to-one paperRole (back role-answer.Done role-answer.Refused) role-back {x = x .0} {y = y .0} (s ∙ sym t)) refl)
+source-or-dest-field-settles = by-fact _ _
+    (λ κs a x y s t. alike (one-to-one paperRole (back role-answer.Done role-answer.Refused) role-back {x = x .0} {y = y .0} (s ∙ sym t)) refl)
 
 -- the source for all
-pub source-or-dest-field-source : ShutsOut reader.source_or_dest_field.ended (λ M. reader.source_or_dest_field.clauses) ([], tt) (read, tt) (role-answer.Done Source, (tt, tt))
+pub source-or-dest-field-source : ShutsOut reader.source_or_dest_field.ended (λ M. reader.source_or_dest_field.clauses) ([], tt) (read, tt)
+    (role-answer.Done Source, (tt, tt))
 source-or-dest-field-source = shut _ _ (λ e. let d : Source ≡ Dest = done-one e in let z : _≡_ {A = ℕ} 0 1 = cc in omega arith)
 
 -- the destination on a refusal
-pub source-or-dest-field-made-up : ShutsOut reader.source_or_dest_field.ended (λ M. reader.source_or_dest_field.clauses) ([], tt) (unread, tt) (role-answer.Done Dest, (tt, tt))
+pub source-or-dest-field-made-up : ShutsOut reader.source_or_dest_field.ended (λ M. reader.source_or_dest_field.clauses) ([], tt) (unread, tt)
+    (role-answer.Done Dest, (tt, tt))
 source-or-dest-field-made-up = shut _ _ (λ e. not-done (sym e))
 
 pub frame-data-shows : Shows lent.frame_data.ended (λ M. lent.frame_data.clauses) (λ κs a r. r)
 frame-data-shows = by-fact _ _ (λ κs a x y s t. (s .lies ∙ sym (t .lies), s .shows ∙ sym (t .shows)))
 
 -- shows the whole buffer; shows nothing of a frame that can be read
-pub frame-data-whole : (r : RefT (List ℕ)) → now r ≡ octetsF → ShutsOut lent.frame_data.ended (λ M. lent.frame_data.clauses) ([], tt) (at octetsF, (false, tt)) (r, (tt, (tt, tt)))
+pub frame-data-whole : (r : RefT (List ℕ)) → now r ≡ octetsF
+    → ShutsOut lent.frame_data.ended (λ M. lent.frame_data.clauses) ([], tt) (at octetsF, (false, tt)) (r, (tt, (tt, tt)))
 unfolding frameReading headerReading fieldReading
 frame-data-whole r h = shut _ _ (λ e. let z : _≡_ {A = ℕ} 11 2 = ap length (sym h ∙ e .shows) in omega arith)
 
-pub frame-data-none : (r : RefT (List ℕ)) → now r ≡ [] → ShutsOut lent.frame_data.ended (λ M. lent.frame_data.clauses) ([], tt) (at octetsF, (false, tt)) (r, (tt, (tt, tt)))
+pub frame-data-none : (r : RefT (List ℕ)) → now r ≡ []
+    → ShutsOut lent.frame_data.ended (λ M. lent.frame_data.clauses) ([], tt) (at octetsF, (false, tt)) (r, (tt, (tt, tt)))
 unfolding frameReading headerReading fieldReading
 frame-data-none r h = shut _ _ (λ e. let z : _≡_ {A = ℕ} 0 2 = ap length (sym h ∙ e .shows) in omega arith)
 

@@ -92,7 +92,11 @@ abbrev wide : PrimaryHeader
 wide = withCount 9 0 some
 
 pub new-settles : Settles fn-new
-new-settles = record { total = λ κs a. tt; same = λ κs a x y s t. alike (one-to-one paperHeader (back header-answer.Done header-answer.Refused) header-one (s ∙ sym t)) refl }
+new-settles = record {
+  total = λ κs a. tt;
+  same = λ κs a x y s t. alike
+      (one-to-one paperHeader (back header-answer.Done header-answer.Refused) header-one (s ∙ sym t)) refl;
+}
 
 -- a length of 0 wrapped to 65,536
 pub new-wrapped : Allows fn-new tt (0x1234, (Dest, (5, (3, (0, tt))))) (header-answer.Done (withLength 65536 made), (tt, (tt, (tt, (tt, (tt, tt)))))) → ⊥
@@ -105,7 +109,11 @@ unfolding headerMaking
 new-lax e = let z : _≡_ {A = ℕ} 0 1 = cc in omega arith
 
 pub with-vc-frame-count-settles : Settles fn-with-vc-frame-count
-with-vc-frame-count-settles = record { total = λ κs a. tt; same = λ κs a x y s t. alike (one-to-one paperHeader (back header-answer.Done header-answer.Refused) header-one (s ∙ sym t)) refl }
+with-vc-frame-count-settles = record {
+  total = λ κs a. tt;
+  same = λ κs a x y s t. alike
+      (one-to-one paperHeader (back header-answer.Done header-answer.Refused) header-one (s ∙ sym t)) refl;
+}
 
 -- takes 256 to the width itself
 pub with-vc-frame-count-bound : Allows fn-with-vc-frame-count tt (some, (1, (256, tt))) (header-answer.Done high, (tt, (tt, (tt, tt)))) → ⊥
@@ -113,12 +121,31 @@ unfolding countSetting
 with-vc-frame-count-bound e = let z : _≡_ {A = ℕ} 0 1 = cc in omega arith
 
 -- judges the channel too
-pub with-vc-frame-count-channel : Allows fn-with-vc-frame-count tt (record { «spacecraft_id» = 0; «source_or_dest_field» = Dest; «vc_id» = 200; «map_id» = 3; «frame_len_field» = 10; «sequence_control_flag» = SequenceControlledQoS; «protocol_control_command_flag» = TfdfContainsUserData; «ocf_flag» = false; «vc_frame_count_len» = 1; «vc_frame_count» = 7 }, (1, (7, tt))) (header-answer.Refused BadField, (tt, (tt, (tt, tt)))) → ⊥
+pub with-vc-frame-count-channel : Allows fn-with-vc-frame-count tt (
+  record {
+    «spacecraft_id» = 0;
+    «source_or_dest_field» = Dest;
+    «vc_id» = 200;
+    «map_id» = 3;
+    «frame_len_field» = 10;
+    «sequence_control_flag» =
+        SequenceControlledQoS;
+    «protocol_control_command_flag» = TfdfContainsUserData;
+    «ocf_flag» = false;
+    «vc_frame_count_len» = 1;
+    «vc_frame_count» = 7;
+  },
+  (1, (7, tt)),
+) (header-answer.Refused BadField, (tt, (tt, (tt, tt)))) → ⊥
 unfolding countSetting
 with-vc-frame-count-channel e = let z : _≡_ {A = ℕ} 0 1 = cc in omega arith
 
 pub with-frame-len-settles : Settles fn-with-frame-len
-with-frame-len-settles = record { total = λ κs a. tt; same = λ κs a x y s t. alike (one-to-one paperHeader (back header-answer.Done header-answer.Refused) header-one (s ∙ sym t)) refl }
+with-frame-len-settles = record {
+  total = λ κs a. tt;
+  same = λ κs a x y s t. alike
+      (one-to-one paperHeader (back header-answer.Done header-answer.Refused) header-one (s ∙ sym t)) refl;
+}
 
 -- 65,537 wrapped into the field
 pub with-frame-len-wrapped : Allows fn-with-frame-len tt (some, (65537, tt)) (header-answer.Done (withLength 1 some), (tt, (tt, tt))) → ⊥
@@ -131,7 +158,11 @@ unfolding lengthSetting
 with-frame-len-strict e = let z : _≡_ {A = ℕ} 0 1 = cc in omega arith
 
 pub checked-settles : Settles fn-checked
-checked-settles = record { total = λ κs a. tt; same = λ κs a x y s t. alike (one-to-one paperHeader (back header-answer.Done header-answer.Refused) header-one (s ∙ sym t)) refl }
+checked-settles = record {
+  total = λ κs a. tt;
+  same = λ κs a x y s t. alike
+      (one-to-one paperHeader (back header-answer.Done header-answer.Refused) header-one (s ∙ sym t)) refl;
+}
 
 -- passes every header
 pub checked-lax : Allows fn-checked tt (wide, tt) (header-answer.Done wide, (tt, tt)) → ⊥
@@ -199,7 +230,11 @@ pub equals-count : Allows fn-equals tt (made, (some, tt)) (true, (tt, (tt, tt)))
 equals-count e = let z : _≡_ {A = ℕ} 0 1 = cc in omega arith
 
 pub from-bytes-settles : Settles fn-from-bytes
-from-bytes-settles = record { total = λ κs a. tt; same = λ κs a x y s t. alike (one-to-one paperHeader (back header-answer.Done header-answer.Refused) header-one (s ∙ sym t)) refl }
+from-bytes-settles = record {
+  total = λ κs a. tt;
+  same = λ κs a x y s t. alike
+      (one-to-one paperHeader (back header-answer.Done header-answer.Refused) header-one (s ∙ sym t)) refl;
+}
 
 -- asks for seven octets before the truncated flag
 pub from-bytes-truncated : Allows fn-from-bytes ([], tt) (at (0xC1 ∷ 0x23 ∷ 0x48 ∷ 0xA7 ∷ []), tt) (header-answer.Refused (ShortSource 4 7), (tt, tt)) → ⊥
@@ -212,12 +247,17 @@ unfolding headerReading
 from-bytes-refuser e = let z : _≡_ {A = ℕ} 0 1 = cc in omega arith
 
 -- one header for all octets
-pub from-bytes-fixed : Allows fn-from-bytes ([], tt) (at (0xC1 ∷ 0x23 ∷ 0x40 ∷ 0xA6 ∷ 0x00 ∷ 0x0A ∷ 0x01 ∷ 0x07 ∷ []), tt) (header-answer.Done some, (tt, tt)) → ⊥
+pub from-bytes-fixed : Allows fn-from-bytes ([], tt) (at (0xC1 ∷ 0x23 ∷ 0x40 ∷ 0xA6 ∷ 0x00 ∷ 0x0A ∷ 0x01 ∷ 0x07 ∷ []), tt)
+    (header-answer.Done some, (tt, tt)) → ⊥
 unfolding headerReading
 from-bytes-fixed e = let d : Dest ≡ Source = ap (λ (h : PrimaryHeader). h .«source_or_dest_field») (done-one e) in let z : _≡_ {A = ℕ} 0 1 = cc in omega arith
 
 pub write-to-slice-settles : Settles fn-write-to-slice
-write-to-slice-settles = record { total = λ κs a. tt; same = λ κs a x y s t. let e = leaving-one (s ∙ sym t) in alike (one-to-one paperLength (back length-answer.Done length-answer.Refused) length-back (e .0)) (λ i. (tt, (e .1 i, tt))) }
+write-to-slice-settles = record {
+  total = λ κs a. tt;
+  same = λ κs a x y s t. let e = leaving-one (s ∙ sym t) in
+      alike (one-to-one paperLength (back length-answer.Done length-answer.Refused) length-back (e .0)) (λ i. (tt, (e .1 i, tt)));
+}
 
 -- writes nothing and says done
 pub write-to-slice-idle : Allows fn-write-to-slice ([], tt) (some, (at zeros, tt)) (length-answer.Done 8, (tt, (zeros, tt))) → ⊥

@@ -84,15 +84,43 @@ abbrev fn-data-of : Function
 fn-data-of = function reader.data_of.Kinds.ps reader.data_of.Kinds.r reader.data_of.Reads.Pre reader.data_of.Reads.Learnt
 
 pub from-bytes-settles : Settles fn-from-bytes
-from-bytes-settles = record { total = λ κs a. tt; same = λ κs a x y s t. alike (one-to-one paperFrame (back frame-answer.Done frame-answer.Refused) frame-back (s ∙ sym t)) refl }
+from-bytes-settles = record {
+  total = λ κs a. tt;
+  same = λ κs a x y s t. alike
+      (one-to-one paperFrame (back frame-answer.Done frame-answer.Refused) frame-back (s ∙ sym t)) refl;
+}
 
 -- works the data length out before the test for FRAME_TOO_SHORT
-pub from-bytes-wrapped : Allows fn-from-bytes ([], tt) (at (0xC1 ∷ 0x23 ∷ 0x48 ∷ 0xA6 ∷ 0x00 ∷ 0x07 ∷ 0x01 ∷ 0x07 ∷ 0xE4 ∷ 0x0A ∷ 0xF0 ∷ []), (false, tt)) (frame-answer.Done (record { «primary_header» = record { «spacecraft_id» = 0x1234; «source_or_dest_field» = Dest; «vc_id» = 5; «map_id» = 3; «frame_len_field» = 7; «sequence_control_flag» = some .«sequence_control_flag»; «protocol_control_command_flag» = some .«protocol_control_command_flag»; «ocf_flag» = false; «vc_frame_count_len» = 1; «vc_frame_count» = 7 }; «data_field_header» = whole; «operational_control_field» = Absent; «data_start» = 9; «data_len» = 0xFFFFFFFFFFFFFFFF }), (tt, (tt, tt))) → ⊥
+pub from-bytes-wrapped : Allows fn-from-bytes ([], tt)
+    (at (0xC1 ∷ 0x23 ∷ 0x48 ∷ 0xA6 ∷ 0x00 ∷ 0x07 ∷ 0x01 ∷ 0x07 ∷ 0xE4 ∷ 0x0A ∷ 0xF0 ∷ []), (false, tt)) (
+      frame-answer.Done (record {
+        «primary_header» = record {
+          «spacecraft_id» = 0x1234;
+          «source_or_dest_field» = Dest;
+          «vc_id» = 5;
+          «map_id» = 3;
+          «frame_len_field» = 7;
+          «sequence_control_flag» =
+              some .«sequence_control_flag»;
+          «protocol_control_command_flag» = some .«protocol_control_command_flag»;
+          «ocf_flag» = false;
+          «vc_frame_count_len» =
+              1;
+          «vc_frame_count» = 7;
+        };
+        «data_field_header» = whole;
+        «operational_control_field» = Absent;
+        «data_start» = 9;
+        «data_len» = 0xFFFFFFFFFFFFFFFF;
+      }),
+      (tt, (tt, tt)),
+    ) → ⊥
 unfolding frameReading headerReading fieldReading
 from-bytes-wrapped e = let z : _≡_ {A = ℕ} 0 1 = cc in omega arith
 
 -- gives TRUNCATED only after seven octets
-pub from-bytes-truncated : Allows fn-from-bytes ([], tt) (at (0xC1 ∷ 0x23 ∷ 0x48 ∷ 0xA7 ∷ []), (false, tt)) (frame-answer.Refused (ShortSource 4 7), (tt, (tt, tt))) → ⊥
+pub from-bytes-truncated : Allows fn-from-bytes ([], tt) (at (0xC1 ∷ 0x23 ∷ 0x48 ∷ 0xA7 ∷ []), (false, tt))
+    (frame-answer.Refused (ShortSource 4 7), (tt, (tt, tt))) → ⊥
 unfolding frameReading headerReading
 from-bytes-truncated e = let z : _≡_ {A = ℕ} 0 1 = cc in omega arith
 
@@ -159,7 +187,8 @@ data-field-header-settles = record { total = λ κs a. tt; same = λ κs a x y s
 
 -- another header
 pub data-field-header-other : Allows fn-data-field-header tt (readF, tt) (spanning, (tt, tt)) → ⊥
-data-field-header-other e = let d : PacketSpanningMultipleFrames ≡ NoSegmentation = ap (λ (f : TransferFrameDataFieldHeader). f .«construction_rule») e in let z : _≡_ {A = ℕ} 0 1 = cc in omega arith
+data-field-header-other e = let d : PacketSpanningMultipleFrames ≡ NoSegmentation = ap
+    (λ (f : TransferFrameDataFieldHeader). f .«construction_rule») e in let z : _≡_ {A = ℕ} 0 1 = cc in omega arith
 
 pub operational-control-field-settles : Settles fn-operational-control-field
 operational-control-field-settles = record { total = λ κs a. tt; same = λ κs a x y s t. alike (s ∙ sym t) refl }
@@ -185,5 +214,6 @@ pub data-of-shows : Shows fn-data-of (λ κs a r. r)
 data-of-shows = record { total = λ κs a. tt; same = λ κs a x y s t. (s .lies ∙ sym (t .lies), s .shows ∙ sym (t .shows)) }
 
 -- shows octets on a refusal
-pub data-of-refused : (r : RefT (List ℕ)) → now r ≡ 1 ∷ [] → Allows fn-data-of ([], tt) (frame-answer.Refused Truncated, (at (1 ∷ []), tt)) (r, (tt, (tt, tt))) → ⊥
+pub data-of-refused : (r : RefT (List ℕ)) → now r ≡ 1 ∷ []
+    → Allows fn-data-of ([], tt) (frame-answer.Refused Truncated, (at (1 ∷ []), tt)) (r, (tt, (tt, tt))) → ⊥
 data-of-refused r h e = let z : _≡_ {A = ℕ} 0 1 = cc in omega arith

@@ -93,23 +93,34 @@ new-settles = record { total = λ κs a. tt; same = λ κs a x y s t. alike (s �
 
 -- a slot open from the start
 pub new-opened : Allows fn-new tt tt (opened, tt) → ⊥
-new-opened e = let d : Closed ≡ Opened channel 1 = sym (ap (λ (r : ChannelRecord). getD (r .slots) 0 (slotOf Closed) .state) e) in let z : _≡_ {A = ℕ} 0 1 = cc in omega arith
+new-opened e = let d : Closed ≡ Opened channel 1 = sym (ap (λ (r : ChannelRecord). getD (r .slots) 0 (slotOf Closed) .state) e) in
+    let z : _≡_ {A = ℕ} 0 1 = cc in omega arith
 
 pub open-channel-settles : Settles fn-open-channel
-open-channel-settles = record { total = λ κs a. tt; same = λ κs a x y s t. let e = keeping-one (s ∙ sym t) in alike (λ i. record { answer = done-alike {x = x .0 .answer} {y = y .0 .answer} (e .0) i; next = e .1 i }) refl }
+open-channel-settles = record {
+  total = λ κs a. tt;
+  same = λ κs a x y s t. let e = keeping-one (s ∙ sym t) in
+      alike (λ i. record { answer = done-alike {x = x .0 .answer} {y = y .0 .answer} (e .0) i; next = e .1 i }) refl;
+}
 
 -- says done and opens nothing
-pub open-channel-idle : Allows fn-open-channel tt (emptyRecord, (channel, (1, tt))) (record { answer = done-answer.Done; next = emptyRecord }, (tt, (tt, (tt, tt)))) → ⊥
+pub open-channel-idle : Allows fn-open-channel tt (emptyRecord, (channel, (1, tt)))
+    (record { answer = done-answer.Done; next = emptyRecord }, (tt, (tt, (tt, tt)))) → ⊥
 unfolding opening find vacant
 open-channel-idle e = let d : Closed ≡ Opened channel 1 = ap firstOf e in let z : _≡_ {A = ℕ} 0 1 = cc in omega arith
 
 -- takes width 0
-pub open-channel-width : Allows fn-open-channel tt (emptyRecord, (channel, (0, tt))) (record { answer = done-answer.Done; next = put emptyRecord 0 (Opened channel 0) }, (tt, (tt, (tt, tt)))) → ⊥
+pub open-channel-width : Allows fn-open-channel tt (emptyRecord, (channel, (0, tt)))
+    (record { answer = done-answer.Done; next = put emptyRecord 0 (Opened channel 0) }, (tt, (tt, (tt, tt)))) → ⊥
 unfolding opening
 open-channel-width e = let d : Opened channel 0 ≡ Closed = ap firstOf e in let z : _≡_ {A = ℕ} 0 1 = cc in omega arith
 
 pub close-channel-settles : Settles fn-close-channel
-close-channel-settles = record { total = λ κs a. tt; same = λ κs a x y s t. let e = keeping-one (s ∙ sym t) in alike (λ i. record { answer = done-alike {x = x .0 .answer} {y = y .0 .answer} (e .0) i; next = e .1 i }) refl }
+close-channel-settles = record {
+  total = λ κs a. tt;
+  same = λ κs a x y s t. let e = keeping-one (s ∙ sym t) in
+      alike (λ i. record { answer = done-alike {x = x .0 .answer} {y = y .0 .answer} (e .0) i; next = e .1 i }) refl;
+}
 
 -- says done and closes nothing
 pub close-channel-idle : Allows fn-close-channel tt (opened, (channel, tt)) (record { answer = done-answer.Done; next = opened }, (tt, (tt, tt))) → ⊥
@@ -122,7 +133,11 @@ unfolding closing find
 close-channel-lax e = let d = keeping-one e .0 in let z : _≡_ {A = ℕ} 0 1 = cc in omega arith
 
 pub channel-state-settles : Settles fn-channel-state
-channel-state-settles = record { total = λ κs a. tt; same = λ κs a x y s t. alike (one-to-one paperState (back state-answer.Done state-answer.Refused) state-back (s ∙ sym t)) refl }
+channel-state-settles = record {
+  total = λ κs a. tt;
+  same = λ κs a x y s t. alike
+      (one-to-one paperState (back state-answer.Done state-answer.Refused) state-back (s ∙ sym t)) refl;
+}
 
 -- a closed slot for a channel that is not open
 pub channel-state-closed : Allows fn-channel-state tt (emptyRecord, (channel, tt)) (state-answer.Done Closed, (tt, (tt, tt))) → ⊥
@@ -135,7 +150,11 @@ unfolding showing find
 channel-state-refuser e = let z : _≡_ {A = ℕ} 0 1 = cc in omega arith
 
 pub total-missing-settles : Settles fn-total-missing
-total-missing-settles = record { total = λ κs a. tt; same = λ κs a x y s t. alike (one-to-one paperTotal (back total-answer.Done total-answer.Refused) total-back (s ∙ sym t)) refl }
+total-missing-settles = record {
+  total = λ κs a. tt;
+  same = λ κs a x y s t. alike
+      (one-to-one paperTotal (back total-answer.Done total-answer.Refused) total-back (s ∙ sym t)) refl;
+}
 
 -- adds up what no call made
 pub total-missing-lax : Allows fn-total-missing tt (full, tt) (total-answer.Done (2 ^ 60), (tt, tt)) → ⊥
@@ -205,7 +224,8 @@ unfolding judging find
 judge-count-elsewhere s e = let z : _≡_ {A = ℕ} 3 0 = ap (λ (x : Arrival × Change). x .1 .at) (done-one e) in omega arith
 
 -- half of M ahead taken as LATE; a REPEAT counted as handed on
-pub judge-count-half : (c : Change) → Allows fn-judge-count tt (lastHeard 1 0, (channel, (1, (128, tt)))) (count-answer.Done Late c, (tt, (tt, (tt, (tt, tt))))) → ⊥
+pub judge-count-half : (c : Change)
+    → Allows fn-judge-count tt (lastHeard 1 0, (channel, (1, (128, tt)))) (count-answer.Done Late c, (tt, (tt, (tt, (tt, tt))))) → ⊥
 unfolding judging find
 judge-count-half c e = let d : Late ≡ New 127 = ap (λ (x : Arrival × Change). x .0) (done-one e) in let z : _≡_ {A = ℕ} 0 1 = cc in omega arith
 

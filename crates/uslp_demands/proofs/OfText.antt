@@ -47,11 +47,19 @@ pub put-decimal-swapped : Allows fn-put-decimal ([], tt) (42, (at (0 ∷ 0 ∷ [
 put-decimal-swapped e = let z : _≡_ {A = ℕ} 50 52 = cc in omega arith
 
 pub put-text-settles : Settles fn-put-text
-put-text-settles = record { total = λ κs a. tt; same = λ κs a x y s t. alike (s .ends ∙ sym (t .ends)) (λ i. (tt, ((s .stands ∙ sym (t .stands)) i, (tt, tt)))) }
+put-text-settles = record {
+  total = λ κs a. tt;
+  same = λ κs a x y s t. alike (s .ends ∙ sym (t .ends))
+      (λ i. (tt, ((s .stands ∙ sym (t .stands)) i, (tt, tt))));
+}
 
 -- leaves out what has no room, and tells a place behind it
 pub put-text-out : Allows fn-put-text ([], ([], tt)) (at (1 ∷ 2 ∷ []), (at (7 ∷ []), (0, tt))) (1, (tt, (7 ∷ [], (tt, tt)))) → ⊥
 put-text-out e = let z : _≡_ {A = ℕ} 7 1 = ap (λ (s : List ℕ). getD s 0 0) (e .stands) in omega arith
 
 pub put-number-settles : Settles fn-put-number
-put-number-settles = record { total = λ κs a. tt; same = λ κs a x y s t. alike (s .ends ∙ sym (t .ends)) (λ i. (tt, ((s .stands ∙ sym (t .stands)) i, (tt, tt)))) }
+put-number-settles = record {
+  total = λ κs a. tt;
+  same = λ κs a x y s t. alike (s .ends ∙ sym (t .ends))
+      (λ i. (tt, ((s .stands ∙ sym (t .stands)) i, (tt, tt))));
+}

@@ -75,7 +75,11 @@ abbrev sealing : TransferFrameCreatorWithReservedData
 sealing = record { «data_index» = 0; «data_size» = 1; «len_written» = 3; «has_fecf» = true }
 
 pub len-written-settles : Settles fn-len-written
-len-written-settles = record { total = λ κs a. tt; same = λ κs a x y s t. alike (one-to-one paperLength (back length-answer.Done length-answer.Refused) length-back (s ∙ sym t)) refl }
+len-written-settles = record {
+  total = λ κs a. tt;
+  same = λ κs a x y s t. alike
+      (one-to-one paperLength (back length-answer.Done length-answer.Refused) length-back (s ∙ sym t)) refl;
+}
 
 -- one octet too many, its length wrapped
 pub len-written-wrapped : Allows fn-len-written tt (plain, (65529, tt)) (length-answer.Done 0, (tt, (tt, tt))) → ⊥
@@ -88,28 +92,44 @@ unfolding frameLength
 len-written-lax e = let z : _≡_ {A = ℕ} 0 1 = cc in omega arith
 
 pub write-to-slice-settles : Settles fn-write-to-slice
-write-to-slice-settles = record { total = λ κs a. tt; same = λ κs a x y s t. let e = leaving-one (s ∙ sym t) in alike (one-to-one paperLength (back length-answer.Done length-answer.Refused) length-back (e .0)) (λ i. (tt, (tt, (e .1 i, tt)))) }
+write-to-slice-settles = record {
+  total = λ κs a. tt;
+  same = λ κs a x y s t. let e = leaving-one (s ∙ sym t) in
+      alike (one-to-one paperLength (back length-answer.Done length-answer.Refused) length-back (e .0)) (λ i. (tt, (tt, (e .1 i, tt))));
+}
 
 -- writes nothing and says done
-pub write-to-slice-idle : Allows fn-write-to-slice ([], ([], tt)) (plain, (at (0x0A ∷ 0xF0 ∷ []), (at zeros, tt))) (length-answer.Done 10, (tt, (tt, (zeros, tt)))) → ⊥
+pub write-to-slice-idle : Allows fn-write-to-slice ([], ([], tt)) (plain, (at (0x0A ∷ 0xF0 ∷ []), (at zeros, tt)))
+    (length-answer.Done 10, (tt, (tt, (zeros, tt)))) → ⊥
 unfolding frameWriting
 write-to-slice-idle e = let z : _≡_ {A = ℕ} 0 0xC1 = cc in omega arith
 
 -- writes a frame whose OCF flag has no OCF
-pub write-to-slice-lax : Allows fn-write-to-slice ([], ([], tt)) (unflagged, (at [], (at [], tt))) (length-answer.Refused (ShortTarget 0 13), (tt, (tt, ([], tt)))) → ⊥
+pub write-to-slice-lax : Allows fn-write-to-slice ([], ([], tt)) (unflagged, (at [], (at [], tt)))
+    (length-answer.Refused (ShortTarget 0 13), (tt, (tt, ([], tt)))) → ⊥
 unfolding frameWriting
 write-to-slice-lax e = let z : _≡_ {A = ℕ} 0 1 = cc in omega arith
 
 pub reserve-settles : Settles fn-new
-reserve-settles = record { total = λ κs a. tt; same = λ κs a x y s t. let e = leaving-one (s ∙ sym t) in alike (one-to-one paperReserved (back reserved-answer.Done reserved-answer.Refused) reserved-back (e .0)) (λ i. (tt, (tt, (e .1 i, tt)))) }
+reserve-settles = record {
+  total = λ κs a. tt;
+  same = λ κs a x y s t. let e = leaving-one (s ∙ sym t) in
+      alike (one-to-one paperReserved (back reserved-answer.Done reserved-answer.Refused) reserved-back (e .0)) (λ i. (tt, (tt, (e .1 i, tt))));
+}
 
 -- clears the data area
-pub reserve-cleared : Allows fn-new ([], tt) (plain, (2, (at (1 ∷ 1 ∷ 1 ∷ 1 ∷ 1 ∷ 1 ∷ 1 ∷ 1 ∷ 1 ∷ 1 ∷ []), tt))) (reserved-answer.Done (record { «data_index» = 8; «data_size» = 2; «len_written» = 10; «has_fecf» = false }), (tt, (tt, (0xC1 ∷ 0x23 ∷ 0x48 ∷ 0xA6 ∷ 0 ∷ 9 ∷ 0 ∷ 0xE4 ∷ 0 ∷ 0 ∷ [], tt)))) → ⊥
+pub reserve-cleared : Allows fn-new ([], tt) (plain, (2, (at (1 ∷ 1 ∷ 1 ∷ 1 ∷ 1 ∷ 1 ∷ 1 ∷ 1 ∷ 1 ∷ 1 ∷ []), tt))) (
+  reserved-answer.Done (record { «data_index» = 8; «data_size» = 2; «len_written» = 10; «has_fecf» = false }),
+  (tt, (tt, (0xC1 ∷ 0x23 ∷ 0x48 ∷ 0xA6 ∷ 0 ∷ 9 ∷ 0 ∷ 0xE4 ∷ 0 ∷ 0 ∷ [], tt))),
+) → ⊥
 unfolding reserving
 reserve-cleared e = let z : _≡_ {A = ℕ} 0 1 = cc in omega arith
 
 -- says that the data start behind the primary header
-pub reserve-start : Allows fn-new ([], tt) (plain, (2, (at (1 ∷ 1 ∷ 1 ∷ 1 ∷ 1 ∷ 1 ∷ 1 ∷ 1 ∷ 1 ∷ 1 ∷ []), tt))) (reserved-answer.Done (record { «data_index» = 7; «data_size» = 2; «len_written» = 10; «has_fecf» = false }), (tt, (tt, (0xC1 ∷ 0x23 ∷ 0x48 ∷ 0xA6 ∷ 0 ∷ 9 ∷ 0 ∷ 0xE4 ∷ 1 ∷ 1 ∷ [], tt)))) → ⊥
+pub reserve-start : Allows fn-new ([], tt) (plain, (2, (at (1 ∷ 1 ∷ 1 ∷ 1 ∷ 1 ∷ 1 ∷ 1 ∷ 1 ∷ 1 ∷ 1 ∷ []), tt))) (
+  reserved-answer.Done (record { «data_index» = 7; «data_size» = 2; «len_written» = 10; «has_fecf» = false }),
+  (tt, (tt, (0xC1 ∷ 0x23 ∷ 0x48 ∷ 0xA6 ∷ 0 ∷ 9 ∷ 0 ∷ 0xE4 ∷ 1 ∷ 1 ∷ [], tt))),
+) → ⊥
 unfolding reserving
 reserve-start e = let z : _≡_ {A = ℕ} 7 8 = ap (λ (k : TransferFrameCreatorWithReservedData). k .«data_index») (done-one (leaving-one e .0)) in omega arith
 
@@ -128,7 +148,8 @@ pub reserved-data-shows : Shows fn-data (λ κs a r. r)
 reserved-data-shows = record { total = λ κs a. tt; same = λ κs a x y s t. (s .lies ∙ sym (t .lies), s .shows ∙ sym (t .shows)) }
 
 -- shows the area though finishing would refuse; shows nothing though it would not
-pub reserved-data-lax : (r : RefT (List ℕ)) → now r ≡ 4 ∷ 5 ∷ 6 ∷ 7 ∷ [] → Allows fn-data ([], tt) (small, (at (1 ∷ 2 ∷ 3 ∷ 4 ∷ 5 ∷ 6 ∷ 7 ∷ []), tt)) (r, (tt, (tt, tt))) → ⊥
+pub reserved-data-lax : (r : RefT (List ℕ)) → now r ≡ 4 ∷ 5 ∷ 6 ∷ 7 ∷ []
+    → Allows fn-data ([], tt) (small, (at (1 ∷ 2 ∷ 3 ∷ 4 ∷ 5 ∷ 6 ∷ 7 ∷ []), tt)) (r, (tt, (tt, tt))) → ⊥
 unfolding finishLength
 reserved-data-lax r h e = let z : _≡_ {A = ℕ} 0 1 = cc in omega arith
 
@@ -165,7 +186,11 @@ unfolding finishLength
 fill-early e = let z : _≡_ {A = ℕ} 9 7 = ap (λ (l : List ℕ). getD l 0 0) (leaving-one e .1) in omega arith
 
 pub finish-settles : Settles fn-finish
-finish-settles = record { total = λ κs a. tt; same = λ κs a x y s t. let e = leaving-one (s ∙ sym t) in alike (one-to-one paperLength (back length-answer.Done length-answer.Refused) length-back (e .0)) (λ i. (tt, (e .1 i, tt))) }
+finish-settles = record {
+  total = λ κs a. tt;
+  same = λ κs a x y s t. let e = leaving-one (s ∙ sym t) in
+      alike (one-to-one paperLength (back length-answer.Done length-answer.Refused) length-back (e .0)) (λ i. (tt, (e .1 i, tt)));
+}
 
 -- start plus size wrapped
 pub finish-wrapped : Allows fn-finish ([], tt) (huge, (at (1 ∷ 2 ∷ 3 ∷ 4 ∷ 5 ∷ 6 ∷ []), tt)) (length-answer.Done 6, (tt, (1 ∷ 2 ∷ 3 ∷ 4 ∷ 5 ∷ 6 ∷ [], tt))) → ⊥

@@ -63,7 +63,8 @@ pub hearer-demand : (f : Program fn-hear) → Keeps fn-hear f → Demand3 (heare
 hearer-demand f k = subst Demand3 (λ i r s fecf. sym (k ([], tt) (r, (at s, (fecf, tt)))) i) counted
 
 -- a too-long total reported by a wrapped field: whatever the data and the buffer, 65,529 octets of data get TOO_LONG
-plain-passes : (headerChecking (plain .«primary_header») ≡ done (plain .«primary_header»)) × (fieldChecking (plain .«data_field_header») ≡ done (plain .«data_field_header»))
+plain-passes : (headerChecking (plain .«primary_header») ≡ done (plain .«primary_header»)) ×
+    (fieldChecking (plain .«data_field_header») ≡ done (plain .«data_field_header»))
 unfolding headerChecking fieldChecking
 plain-passes = (refl, refl)
 

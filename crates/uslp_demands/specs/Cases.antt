@@ -64,7 +64,12 @@ pointed =
     record {
       «primary_header» = some;
       «data_field_header» =
-          record { «construction_rule» = PacketSpanningMultipleFrames; «uslp_protocol_id» = SpacePacketsOrEncapsulation; «fhp_or_lvo» = pointer.Present 0x0AF0 };
+          record {
+            «construction_rule» = PacketSpanningMultipleFrames;
+            «uslp_protocol_id» = SpacePacketsOrEncapsulation;
+            «fhp_or_lvo» =
+                pointer.Present 0x0AF0;
+          };
       «operational_control_field» = Absent;
       «data_start» = 11;
       «data_len» = 0;
