@@ -56,14 +56,16 @@ module _ {K : Channel} {width : ℕ} {fecf : Bool} (S : Sender K width fecf) whe
       frame-heard : frameHearing r (frameAt S p ++ behind) fecf ≡ taken r (withFrame (sentAt p) (judging r K width (countAt p)))
       frame-heard =
           ap (λ (o : Outcome TransferFrame). taken r (andThen o (judgedFrame r))) reads
-          ∙ ap (λ (k : Channel). taken r (withFrame (sentAt p) (judging r k (S .header p .«vc_frame_count_len») (S .header p .«vc_frame_count»)))) (S .of-channel p)
+          ∙ ap (λ (k : Channel). taken r (withFrame (sentAt p) (judging r k (S .header p .«vc_frame_count_len») (S .header p .«vc_frame_count»))))
+          (S .of-channel p)
           ∙ ap (λ (w : ℕ). taken r (withFrame (sentAt p) (judging r K w (S .header p .«vc_frame_count»)))) (S .of-width p)
           ∙ ap (λ (n : ℕ). taken r (withFrame (sentAt p) (judging r K width n))) (S .numbered p)
 
       pub arrival-done : overfull (totalsAt t (countAt p)) ≡ false
           → frameHearing r (frameAt S p ++ behind) fecf
           ≡ keeping (done (frameArrival (sentAt p) (arrivalAt t (countAt p)))) (put r (find K (r .slots)) (Heard K width (totalsAt t (countAt p))))
-      arrival-done e = frame-heard ∙ ap (λ (o : Outcome (Arrival × Change)). taken r (withFrame (sentAt p) o)) (judged-done r K width (countAt p) hi (at .there) t (at .state) wide e)
+      arrival-done e = frame-heard ∙ ap (λ (o : Outcome (Arrival × Change)). taken r (withFrame (sentAt p) o))
+          (judged-done r K width (countAt p) hi (at .there) t (at .state) wide e)
 
       -- a hearing that does not get TOTAL_FULL, and totals that are not full
       pub room-in : Roomy frameHearing K r (hears (frameAt S p ++ behind) fecf) → overfull (totalsAt t (countAt p)) ≡ false
@@ -74,7 +76,8 @@ module _ {K : Channel} {width : ℕ} {fecf : Bool} (S : Sender K width fecf) whe
               absurd
               (room (sentAt p) reads same-here
               (ap answerOf
-              (frame-heard ∙ ap (λ (o : Outcome (Arrival × Change)). taken r (withFrame (sentAt p) o)) (judged-full r K width (countAt p) hi (at .there) t (at .state) wide e))))
+              (frame-heard ∙ ap (λ (o : Outcome (Arrival × Change)). taken r (withFrame (sentAt p) o))
+              (judged-full r K width (countAt p) hi (at .there) t (at .state) wide e))))
           go false e = refl
 
       pub room-out : overfull (totalsAt t (countAt p)) ≡ false → Roomy frameHearing K r (hears (frameAt S p ++ behind) fecf)

@@ -96,5 +96,6 @@ module _ (K : Channel) where
   pub made-run : (cs : List Call) → GivenAll cs → Made (run frameHearing K emptyRecord cs)
   made-run cs = made-from cs emptyRecord made-empty
 
-  pub console-run : (cs : List Call) → GivenAll cs → consoleTotal (run frameHearing K emptyRecord cs) ≡ done (missingOverOpen (run frameHearing K emptyRecord cs))
+  pub console-run : (cs : List Call) → GivenAll cs
+      → consoleTotal (run frameHearing K emptyRecord cs) ≡ done (missingOverOpen (run frameHearing K emptyRecord cs))
   console-run cs given = console-made (run frameHearing K emptyRecord cs) (made-run cs given)

@@ -34,7 +34,8 @@ module _ {K : Channel} {width : ℕ} where
   Near (closed k o) seen = Unit {0}
   Near (again w) seen = Unit {0}
 
-  pub window-first : (e : Event K width) (seen ps : List ℕ) → Window (256 ^ width / 2) seen (placesOf e ++ ps) → Near e seen × Window (256 ^ width / 2) (seenWith e seen) ps
+  pub window-first : (e : Event K width) (seen ps : List ℕ) → Window (256 ^ width / 2) seen (placesOf e ++ ps)
+      → Near e seen × Window (256 ^ width / 2) (seenWith e seen) ps
   unfolding Window
   window-first (arrives p behind) seen ps near = near
   window-first (damaged s f k vs e) seen ps near = (tt, near)
@@ -53,7 +54,8 @@ module _ {K : Channel} {width : ℕ} {fecf : Bool} (S : Sender K width fecf) whe
     pub stands : Stands K (q .1) state
     pub counting : Counting S (seenWith e seen) leading state
     pub leads : (ps : List ℕ) → leading ++ leaders (seenWith e seen) ps ≡ before ++ leaders seen (placesOf e ++ ps)
-    pub hands : (ps : List ℕ) → q .0 ++ handingsAfter S (seenWith e seen) (leaders (seenWith e seen) ps) ≡ handingsAfter S seen (leaders seen (placesOf e ++ ps))
+    pub hands : (ps : List ℕ) → q .0 ++ handingsAfter S (seenWith e seen) (leaders (seenWith e seen) ps) ≡ handingsAfter S seen
+        (leaders seen (placesOf e ++ ps))
 
   -- an arrival, for which no total is full
   went-arrives : (lo : 1 ≤ width) (hi : width ≤ 7) (p : ℕ) (behind : List ℕ) (r : ChannelRecord) {seen before : List ℕ} {t : SlotState}

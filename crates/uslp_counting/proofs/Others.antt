@@ -46,7 +46,8 @@ module _ (K : Channel) (r : ChannelRecord) (t : SlotState) (at : Stands K r t) w
 
   module _ (s : List ℕ) where
     -- a frame of another channel that was read
-    passes-other : (x : TransferFrame) → sameChannel (channelOf (x .«primary_header»)) K ≡ false → (o : Outcome (Arrival × Change)) → Stands K (recordOf (taken r o)) t
+    passes-other : (x : TransferFrame) → sameChannel (channelOf (x .«primary_header»)) K ≡ false → (o : Outcome (Arrival × Change))
+        → Stands K (recordOf (taken r o)) t
         → Passes K s t (taken r (withFrame x o))
     passes-other x other (done (New gap, c)) h =
         record { nothing = ap (λ (b : Bool). cond b ((gap, x, contentsIn x s) ∷ []) []) other; stands = h }
@@ -55,7 +56,8 @@ module _ (K : Channel) (r : ChannelRecord) (t : SlotState) (at : Stands K r t) w
     passes-other x other (refused k vs) h = record { nothing = refl; stands = h }
 
     module _ (fecf : Bool) where
-      by-reading : (o : Outcome TransferFrame) → frameReading s fecf ≡ o → Passes K s t (taken r (andThen o (judgedFrame r))) → Passes K s t (frameHearing r s fecf)
+      by-reading : (o : Outcome TransferFrame) → frameReading s fecf ≡ o → Passes K s t (taken r (andThen o (judgedFrame r)))
+          → Passes K s t (frameHearing r s fecf)
       by-reading o e = subst (λ (v : Outcome TransferFrame). Passes K s t (taken r (andThen v (judgedFrame r)))) (sym e)
 
       module _ (k : ℕ) (vs : List ℕ) (e : frameReading s fecf ≡ refused k vs) where

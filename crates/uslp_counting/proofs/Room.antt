@@ -48,11 +48,13 @@ lost-grows (p ∷ ps) k ks f l top = go (decLt (furthest (k ∷ ks)) p) (λ m e.
         omega (arith, ih, e)
 
 module _ {K : Channel} {width : ℕ} {fecf : Bool} (S : Sender K width fecf) where
-  counting-grows : {k : ℕ} {ks before : List ℕ} {t : SlotState} → Counting S (k ∷ ks) before t → (ps : List ℕ) → lost before ≤ lost (before ++ leaders (k ∷ ks) ps)
+  counting-grows : {k : ℕ} {ks before : List ℕ} {t : SlotState} → Counting S (k ∷ ks) before t → (ps : List ℕ)
+      → lost before ≤ lost (before ++ leaders (k ∷ ks) ps)
   counting-grows (going k ks f l t last top gone all) ps = lost-grows ps k ks f l top
 
   module _ (lo : 1 ≤ width) (hi : width ≤ 7) where
-    roomy : (e : Event K width) (r : ChannelRecord) {seen before : List ℕ} {t : SlotState} → Stands K r t → Counting S seen before t → Near e seen → (ps : List ℕ)
+    roomy : (e : Event K width) (r : ChannelRecord) {seen before : List ℕ} {t : SlotState} → Stands K r t → Counting S seen before t → Near e seen
+        → (ps : List ℕ)
         → length (placesOf e ++ seen) ≤ most → lost (before ++ leaders seen (placesOf e ++ ps)) ≤ most → Roomy frameHearing K r (callOf S e)
     unfolding leaders
     roomy (arrives p behind) r {seen} {before} {t} at c near ps few less =

@@ -69,7 +69,8 @@ module _ (K : Channel) (r : ChannelRecord) (t : SlotState) (at : Stands K r t) w
         opening-ways r k (λ (q : Kept (Unit {0})). Stands K (recordOf q) t) w (λ j vs. at)
         (λ o.
         stands-other (vacant (r .slots)) (Opened k w) (o .low)
-        (closed-holds K (stateAt r (vacant (r .slots))) (seek-passes isClosed vacant vacates (r .slots) (slotOf Closed) (omega (arith, at .eight, o .low)))) other)
+        (closed-holds K (stateAt r (vacant (r .slots)))
+        (seek-passes isClosed vacant vacates (r .slots) (slotOf Closed) (omega (arith, at .eight, o .low)))) other)
 
     pub stands-closing : Stands K (recordOf (closing r k)) t
     stands-closing =

@@ -41,7 +41,8 @@ module _ {K : Channel} {width : ℕ} {fecf : Bool} (S : Sender K width fecf) whe
   handings-none [] = refl
   handings-none (k ∷ ks) = refl
 
-  pub counts : 1 ≤ width → width ≤ 7 → (es : List (Event K width)) (r : ChannelRecord) (seen before : List ℕ) (t : SlotState) → Stands K r t → Counting S seen before t
+  pub counts : 1 ≤ width → width ≤ 7 → (es : List (Event K width)) (r : ChannelRecord) (seen before : List ℕ) (t : SlotState) → Stands K r t
+      → Counting S seen before t
       → Window (256 ^ width / 2) seen (places es) → Unfilled frameHearing K r (map (callOf S) es) → Counted es r seen before
   unfolding handed run Unfilled places leaders seenOver
   counts lo hi [] r seen before t at c near room = record {

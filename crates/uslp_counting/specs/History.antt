@@ -101,8 +101,10 @@ frameAt {fecf = fecf} S p = layout fecf (S .spare p) (S .header p) (S .field p) 
 pub data Event (K : Channel) (width : ℕ) : Type 0 where
   arrives : ℕ → List ℕ → Event K width
   damaged : (s : List ℕ) (fecf : Bool) (k : ℕ) (vs : List ℕ) → frameReading s fecf ≡ refused k vs → Event K width
-  elsewhere : (s : List ℕ) (fecf : Bool) (x : TransferFrame) → frameReading s fecf ≡ done x → sameChannel (channelOf (x .«primary_header»)) K ≡ false → Event K width
-  misfits : (s : List ℕ) (fecf : Bool) (x : TransferFrame) → frameReading s fecf ≡ done x → (x .«primary_header» .«vc_frame_count_len» ≡ width → ⊥) → Event K width
+  elsewhere : (s : List ℕ) (fecf : Bool) (x : TransferFrame) → frameReading s fecf ≡ done x → sameChannel (channelOf (x .«primary_header»)) K ≡ false
+      → Event K width
+  misfits : (s : List ℕ) (fecf : Bool) (x : TransferFrame) → frameReading s fecf ≡ done x → (x .«primary_header» .«vc_frame_count_len» ≡ width → ⊥)
+      → Event K width
   opened : (k : Channel) (w : ℕ) → sameChannel k K ≡ false → Event K width
   closed : (k : Channel) → sameChannel k K ≡ false → Event K width
   again : ℕ → Event K width

@@ -39,7 +39,8 @@ module _ (x : TransferFrame) where
 pub frame-ways : (P : Kept FrameArrival → Type 0) (r : ChannelRecord) (s : List ℕ) (fecf : Bool)
     → ((j : ℕ) (vs : List ℕ) → P (keeping (refused j vs) r))
     → ((x : TransferFrame) → frameReading s fecf ≡ done x → Judged r (channel x) (width x) (count x)
-    → P (keeping (done (frameArrival x (arrivalAt (stateAt r (find (channel x) (r .slots))) (count x)))) (changed r (changeFor r (channel x) (width x) (count x)))))
+    → P (keeping (done (frameArrival x (arrivalAt (stateAt r (find (channel x) (r .slots))) (count x))))
+    (changed r (changeFor r (channel x) (width x) (count x)))))
     → P (frameHearing r s fecf)
 frame-ways P r s fecf f g = go (frameReading s fecf) refl
   where

@@ -49,7 +49,8 @@ ruleNumber NoSegmentation = 7
 
 abbrev pub rules : List ConstructionRule
 rules =
-    PacketSpanningMultipleFrames ∷ StartOfMapaSduOrVcaSdu ∷ ContinuingPortionOfMapaSdu ∷ OctetStream ∷ StartingSegment ∷ ContinuingSegment ∷ LastSegment ∷ NoSegmentation ∷ []
+    PacketSpanningMultipleFrames ∷ StartOfMapaSduOrVcaSdu ∷ ContinuingPortionOfMapaSdu ∷ OctetStream ∷ StartingSegment ∷ ContinuingSegment ∷
+    LastSegment ∷ NoSegmentation ∷ []
 
 abbrev pub ruleOf : ℕ → ConstructionRule
 ruleOf n = getD rules (n % 8) NoSegmentation

@@ -52,16 +52,27 @@ use denote.Exit.{Exit, Last, left, yes}
 pub record Result : Type 2 where
   pub slot : Slot 1
   pub ty : Ty
-  pub typed : {M : Type 1} (𝓤 : URA M) (H : Heap 𝓤) (A : Atoms 𝓤) (W : Given 𝓤 H A) (κs : Lfts 1) (x : slot .row κs .Denot) (u : Val) → Is (slot .row κs) x (u ∷ []) → Holds (hasTy ty u) × WT u
+  pub typed : {M : Type 1} (𝓤 : URA M) (H : Heap 𝓤) (A : Atoms 𝓤) (W : Given 𝓤 H A) (κs : Lfts 1) (x : slot .row κs .Denot) (u : Val)
+      → Is (slot .row κs) x (u ∷ []) → Holds (hasTy ty u) × WT u
 
 abbrev pub SliceS : Slot 1
 SliceS = SliceRefOf (0 ∷ []) tt (plain (λ _. u8)) (λ _. tt)
 
 abbrev pub octets : Result
-octets = record { slot = SliceS; ty = sliceTy (tyRef (named 0) imm (tyInt w8)); typed = λ 𝓤 H A W κs x u is. shr-slice-lawful 𝓤 H A W (named 0) (κs .0) u8 .typed x (u ∷ []) is .0 }
+octets = record {
+  slot = SliceS;
+  ty = sliceTy (tyRef (named 0) imm (tyInt w8));
+  typed = λ 𝓤 H A W κs x u is. shr-slice-lawful 𝓤 H A W (named 0)
+      (κs .0) u8 .typed x (u ∷ []) is .0;
+}
 
 abbrev pub variants : (S : ED.Declared) → EL.Laws S → Few (ED.shape S) → Result
-variants S LS few = record { slot = plain (λ _. ED.row S); ty = lone (ED.row S .mir); typed = λ 𝓤 H A W κs x u is. EL.lawful S LS 𝓤 H A W few .typed x (u ∷ []) is .0 }
+variants S LS few = record {
+  slot = plain (λ _. ED.row S);
+  ty = lone (ED.row S .mir);
+  typed = λ 𝓤 H A W κs x u is. EL.lawful S LS 𝓤 H A W few .typed x
+      (u ∷ []) is .0;
+}
 
 -- the machine value of a slice
 abbrev pub sv : RefT (List ℕ) → Val
@@ -79,7 +90,8 @@ pub record Holder : Type 2 where
   pub X : Type 0
   pub raw-of : X → RefT (List ℕ)
   pub found : X → N .D
-  pub one : (x y : X) → _≡_ {A = RefT (List ℕ) × (SD.field N .row .Denot × Unit {0})} (raw-of x, (N .to (found x), tt)) (raw-of y, (N .to (found y), tt)) → x ≡ y
+  pub one : (x y : X) → _≡_ {A = RefT (List ℕ) × (SD.field N .row .Denot × Unit {0})} (raw-of x, (N .to (found x), tt))
+      (raw-of y, (N .to (found y), tt)) → x ≡ y
   pub make : RefT (List ℕ) → N .D → X
   pub beta : (s : RefT (List ℕ)) (n : N .D) → _≡_ {A = RefT (List ℕ) × N .D} (raw-of (make s n), found (make s n)) (s, n)
 
@@ -88,7 +100,15 @@ module _ (holder : Holder) where
 
   -- the struct that holds, at a lifetime
   abbrev pub TT : NamedLft → Declared
-  TT a = record { name = ν; args = a .mir ∷ []; parts = shr-slice-field a u8 tt ∷ SD.field N ∷ []; D = X; to = λ d. (raw-of d, (N .to (found d), tt)); to-one = one }
+  TT a = record {
+    name = ν;
+    args = a .mir ∷ [];
+    parts = shr-slice-field a u8 tt ∷ SD.field N ∷ [];
+    D = X;
+    to = λ d.
+        (raw-of d, (N .to (found d), tt));
+    to-one = one;
+  }
 
   abbrev pub LT : (a : NamedLft) → LL.Laws (TT a)
   LT a = (LL.shr-slice-laws a u8 tt, (LL.field-laws N LN wN, tt))
@@ -129,7 +149,11 @@ module _ (holder : Holder) where
   -- Φ: what g says of the slice, the plain struct and its result
   module _ (R : Result) (Φ : (κs : Lfts 1) → RefT (List ℕ) → N .D → R .slot .row κs .Denot → Type 0) where
     abbrev g-ended : Ended
-    g-ended = record { signature = record { lifetimes = 1; outlives = []; params = SliceS ∷ plain (λ _. (SD.row N)) ∷ []; result = R .slot }; kept = (yes, (yes, tt)) }
+    g-ended = record {
+      signature = record { lifetimes = 1; outlives = []; params = SliceS ∷ plain (λ _. (SD.row N)) ∷ []; result = R .slot };
+      kept =
+          (yes, (yes, tt));
+    }
 
     abbrev pub f-ended : Ended
     f-ended = record { signature = record { lifetimes = 1; outlives = []; params = plain B ∷ []; result = R .slot }; kept = (yes, tt) }
@@ -142,7 +166,8 @@ module _ (holder : Holder) where
       lifetimes = 1;
       outlives = [];
       params = 1;
-      locals = local (R .ty) valueLocal ∷ local (tyT (named 0)) valueLocal ∷ local (sliceTy (tyRef erased imm (tyInt w8))) valueLocal ∷ local tyN valueLocal ∷ [];
+      locals = local (R .ty) valueLocal ∷ local (tyT (named 0)) valueLocal ∷ local
+          (sliceTy (tyRef erased imm (tyInt w8))) valueLocal ∷ local tyN valueLocal ∷ [];
       body = seq (assign (place 2 []) (rvOpd (copy (place 1 (field 0 ∷ [])))))
           (seq (assign (place 3 []) (rvOpd (copy (place 1 (field 1 ∷ [])))))
           (seq (call g (copy (place 2 []) ∷ copy (place 3 []) ∷ []) (place 0 [])) return));
@@ -184,14 +209,17 @@ module _ (holder : Holder) where
         to = (((κ, tt), (q, tt), tt, (raw-of d, (found d, tt)), passed), tt)
 
         asked : ent 𝓤 (onEntry 𝓤 H A (g-ended .signature) (κ, tt) (q, tt) (raw-of d, (found d, tt)) passed) (OfParts .pre to)
-        asked = qed W ((‵ (flft κ q) ⊛ ‵ ftrue) ∷ ‵ (owns (ShrSlice (named 0) κ u8 ∷ (SD.row N) ∷ []) (raw-of d, (found d, tt)) passed) ∷ []) ∵ join ! $ frame ! $ done !
+        asked = qed W ((‵ (flft κ q) ⊛ ‵ ftrue) ∷ ‵ (owns (ShrSlice (named 0) κ u8 ∷ (SD.row N) ∷ []) (raw-of d, (found d, tt)) passed) ∷ []) ∵ join !
+            $ frame ! $ done !
 
         -- what the struct owns gives what the callee asks, and is kept
         apart : ent 𝓤 (onEntry 𝓤 H A (f-ended .signature) (κ, tt) (q, tt) (d, tt) (mach κ d ∷ [], tt)) (sep 𝓤 (OfParts .pre to) (sem 𝓤 H A Own))
         apart =
             qed W ((‵ (flft κ q) ⊛ ‵ ftrue) ∷ ‵ (owns (B (κ, tt) ∷ []) (d, tt) (mach κ d ∷ [], tt)) ∷ []) ∵
-            move ! (1 ∷ []) $ fsplit ! $ move ! (1 ∷ []) $ drop ! $ use1 W (‵ Own ⊛ ‵ Own) (LL.copy (D (κ, tt)) (CT (namedLft 1 0 tt (κ, tt))) 𝓤 H A W .twice d (mach κ d ∷ [])) $ split ! $
-            use1 W (given (mach κ d ∷ [] ≡ mach κ d ∷ []) (‵ (all-own (D (κ, tt) .parts) (L (κ, tt)) vd))) (own-open 𝓤 H A W (D (κ, tt)) (L (κ, tt)) vd (mach κ d)) $ learn ! (λ _.
+            move ! (1 ∷ []) $ fsplit ! $ move ! (1 ∷ []) $ drop ! $ use1 W (‵ Own ⊛ ‵ Own)
+            (LL.copy (D (κ, tt)) (CT (namedLft 1 0 tt (κ, tt))) 𝓤 H A W .twice d (mach κ d ∷ [])) $ split ! $
+            use1 W (given (mach κ d ∷ [] ≡ mach κ d ∷ []) (‵ (all-own (D (κ, tt) .parts) (L (κ, tt)) vd)))
+            (own-open 𝓤 H A W (D (κ, tt)) (L (κ, tt)) vd (mach κ d)) $ learn ! (λ _.
             -- [what the fields own together; what the struct owns; the token]
             move ! (2 ∷ 0 ∷ []) $ use2 W (raw (OfParts .pre to)) asked $ frame ! $ done !)
 
@@ -201,7 +229,8 @@ module _ (holder : Holder) where
         exits : (r : Row .Denot) (u : Val) → Said r → ent 𝓤 (⋆ 𝓤 H A (‵ (Row .own r (u ∷ [])) ∷ (‵ (flft κ q) ⊛ ‵ ftrue) ∷ ‵ Own ∷ [])) (Post u)
         exits r u e =
             qed W (‵ (Row .own r (u ∷ [])) ∷ (‵ (flft κ q) ⊛ ‵ ftrue) ∷ ‵ Own ∷ []) ∵
-            suffices ! _ (ends-at 𝓤 H A f-ended f-stayed f-clauses W (((κ, tt), (q, tt), tt, (d, tt), (mach κ d ∷ [], tt)), tt) u r (d-end (κ, tt) d, tt) (tt, tt)) $ says ! e $
+            suffices ! _ (ends-at 𝓤 H A f-ended f-stayed f-clauses W (((κ, tt), (q, tt), tt, (d, tt), (mach κ d ∷ [], tt)), tt) u r
+            (d-end (κ, tt) d, tt) (tt, tt)) $ says ! e $
             move ! (1 ∷ []) $ frame ! $ nothing ! $ move ! (2 ∷ 0 ∷ []) $ fjoin ! $ frame ! $ done !
 
         walk : (g : Name) (C : Calls 𝓤 H) (Λ : Loops 𝓤 H) → FmC 𝓤 H (W .laws) C → Triple 𝓤 (C g) OfParts → Is (B (κ, tt)) d (mach κ d ∷ [])
@@ -210,31 +239,41 @@ module _ (holder : Holder) where
             let wt = LL.lawful (D (κ, tt)) (L (κ, tt)) 𝓤 H A W .typed d _ is .0 in
             qed W (raw (onEntry 𝓤 H A (f-ended .signature) (κ, tt) (q, tt) (d, tt) (mach κ d ∷ [], tt)) ∷ []) ∵ enter ! C Λ (f-code g) (mach κ d ∷ []) _ $
             alloc1 ! (λ l₀. alloc1 ! (λ l₁. alloc1 ! (λ l₂. alloc1 ! (λ l₃. alloc0 ! $ params1 ! $ pass1 ! (init ! 4 refl wt) $ pass0 ! $
-            assigns ! (of-opd ! (load ! (from ! (fld ! refl (stop !))) (look-in ! 4 (sub ! 0 refl (whole !))))) (from ! (stop !)) (init ! 2 refl (tt, wt .1 .0)) $
-            assigns ! (of-opd ! (load ! (from ! (fld ! refl (stop !))) (look-in ! 4 (sub ! 1 refl (whole !))))) (from ! (stop !)) (init ! 0 refl (LL.lawful N LN 𝓤 H A W .typed (found d) _ (LL.owed (D (κ, tt)) (L (κ, tt)) d _ is .1 .0) .0)) $
+            assigns ! (of-opd ! (load ! (from ! (fld ! refl (stop !))) (look-in ! 4 (sub ! 0 refl (whole !))))) (from ! (stop !))
+            (init ! 2 refl (tt, wt .1 .0)) $
+            assigns ! (of-opd ! (load ! (from ! (fld ! refl (stop !))) (look-in ! 4 (sub ! 1 refl (whole !))))) (from ! (stop !))
+            (init ! 0 refl (LL.lawful N LN 𝓤 H A W .typed (found d) _ (LL.owed (D (κ, tt)) (L (κ, tt)) d _ is .1 .0) .0)) $
             move ! (8 ∷ []) $ use1 W (raw (OfParts .pre to) ⊛ ‵ Own) apart $ split ! $
-            calls-at ! fm OfParts known to (and-then ! (load ! (from ! (stop !)) (look ! 4 refl)) (and-then ! (load ! (from ! (stop !)) (look ! 2 refl)) (no-more !))) (λ u.
-            use1 W (later (some (λ (r : Row .Denot). ((‵ (flft κ q) ⊛ ‵ ftrue) ⊛ ‵ (Row .own r (u ∷ []))) ⊛ raw (ensured 𝓤 H A g-ended g-clauses (κ, tt) (raw-of d, (found d, tt)) tt r)))) (id⊢ 𝓤 _) $ await ! tt $ pick ! (λ r.
+            calls-at ! fm OfParts known to
+            (and-then ! (load ! (from ! (stop !)) (look ! 4 refl)) (and-then ! (load ! (from ! (stop !)) (look ! 2 refl)) (no-more !))) (λ u.
+            use1 W (later (some (λ (r : Row .Denot). ((‵ (flft κ q) ⊛ ‵ ftrue) ⊛ ‵ (Row .own r (u ∷ []))) ⊛ raw
+            (ensured 𝓤 H A g-ended g-clauses (κ, tt) (raw-of d, (found d, tt)) tt r)))) (id⊢ 𝓤 _) $ await ! tt $ pick ! (λ r.
             split ! $ move ! (1 ∷ []) $ use1 W (raw (fact 𝓤 (Said r))) (said r) $ heard ! (Said r) (λ e. split ! $ move ! (1 ∷ []) $
             -- [the result; the token; what the struct owns; _3; …; _2; …; _1; …; room for _0; …]
             peeks ! Row (Is Row) (shows 𝓤 H A Row) r (u ∷ []) (λ isR.
             land ! (from ! (stop !)) (init ! 9 refl (R .typed 𝓤 H A W (κ, tt) r u isR)) $
             returns ! (look ! 9 refl) $ forget ! 3 refl $ forget ! 5 refl $ forget ! 7 refl $ forget ! 9 refl $
-            move ! (9 ∷ 10 ∷ []) $ free1 ! $ move ! (7 ∷ 8 ∷ []) $ free1 ! $ move ! (5 ∷ 6 ∷ []) $ free1 ! $ move ! (3 ∷ 4 ∷ []) $ free1 ! $ free0 ! $ by ! (exits r u e)))))))))
+            move ! (9 ∷ 10 ∷ []) $ free1 ! $ move ! (7 ∷ 8 ∷ []) $ free1 ! $ move ! (5 ∷ 6 ∷ []) $ free1 ! $ move !
+            (3 ∷ 4 ∷ []) $ free1 ! $ free0 ! $ by ! (exits r u e)))))))))
 
       module _ (W : Given 𝓤 H A) where
-        walks : (g : Name) (C : Calls 𝓤 H) (Λ : Loops 𝓤 H) → FmC 𝓤 H (W .laws) C → Triple 𝓤 (C g) OfParts → Walks 𝓤 H A f-ended f-stayed (WpFn 𝓤 H C Λ (f-code g)) f-clauses
-        walks g C Λ fm known = walked 𝓤 H A f-ended f-stayed f-clauses (WpFn 𝓤 H C Λ (f-code g)) (λ κs. (LL.vals (D κs) (L κs), tt)) (λ κs. (LL.tells (D κs) (L κs), tt))
+        walks : (g : Name) (C : Calls 𝓤 H) (Λ : Loops 𝓤 H) → FmC 𝓤 H (W .laws) C → Triple 𝓤 (C g) OfParts
+            → Walks 𝓤 H A f-ended f-stayed (WpFn 𝓤 H C Λ (f-code g)) f-clauses
+        walks g C Λ fm known = walked 𝓤 H A f-ended f-stayed f-clauses (WpFn 𝓤 H C Λ (f-code g)) (λ κs. (LL.vals (D κs) (L κs), tt))
+            (λ κs. (LL.tells (D κs) (L κs), tt))
             (λ κs qs bounds a _ are. via 𝓤 _ (fst∗ 𝓤 _ (emp 𝓤)) (walk W (κs .0) (qs .0) (a .0) g C Λ fm known (are .0)))
 
-        pub shows-by : (g : Name) (𝓣 : Tables 𝓤 H) → Triple 𝓤 (𝓣 .C g) OfParts → Meets 𝓤 H A (f-ended .signature) (WpFn 𝓤 H (𝓣 .C) (𝓣 .Λ) (f-code g)) (closing 𝓤 H A f-ended f-clauses)
+        pub shows-by : (g : Name) (𝓣 : Tables 𝓤 H) → Triple 𝓤 (𝓣 .C g) OfParts
+            → Meets 𝓤 H A (f-ended .signature) (WpFn 𝓤 H (𝓣 .C) (𝓣 .Λ) (f-code g)) (closing 𝓤 H A f-ended f-clauses)
         shows-by g 𝓣 known =
-            walk-meets 𝓤 H A f-ended f-stayed W (goes-none 𝓤 H A W 1 B yes d-silent, tt) f-clauses (WpFn 𝓤 H (𝓣 .C) (𝓣 .Λ) (f-code g)) (WpFn-mono 𝓤 H (W .laws) 𝓣 (f-code g))
+            walk-meets 𝓤 H A f-ended f-stayed W (goes-none 𝓤 H A W 1 B yes d-silent, tt) f-clauses (WpFn 𝓤 H (𝓣 .C) (𝓣 .Λ) (f-code g))
+            (WpFn-mono 𝓤 H (W .laws) 𝓣 (f-code g))
             (walks g (𝓣 .C) (𝓣 .Λ) (fmOf 𝓤 H (W .laws) 𝓣) known)
 
     -- the last lines of a proof: the MIR of `k` in the environment γ, where the callee g runs as the routine r
     module _ {M : Type 1} (𝓤 : URA M) (H : Heap 𝓤) (𝓜 : Model 𝓤 H) (𝓖 : GhostRules 𝓤 H) (𝓡 : Running 𝓤 H 𝓜) (γ : REnv) (k : Name) where
-      pub by-parts : (g : Name) → Closed 𝓤 H (tables 𝓤 H 𝓜 𝓡 γ .C) (tables 𝓤 H 𝓜 𝓡 γ .Λ) k (f-code g) → (r : Routine) → γ g ≡ r → Triple 𝓤 (𝓡 .run r) (OfParts 𝓤 H (𝓖 .A)) → Triple 𝓤 (𝓡 .run (γ k)) (OfReader 𝓤 H (𝓖 .A))
+      pub by-parts : (g : Name) → Closed 𝓤 H (tables 𝓤 H 𝓜 𝓡 γ .C) (tables 𝓤 H 𝓜 𝓡 γ .Λ) k (f-code g) → (r : Routine) → γ g ≡ r
+          → Triple 𝓤 (𝓡 .run r) (OfParts 𝓤 H (𝓖 .A)) → Triple 𝓤 (𝓡 .run (γ k)) (OfReader 𝓤 H (𝓖 .A))
       unfolding tablesOf
       by-parts g closed r e met =
           entered 𝓤 H (OfReader 𝓤 H (𝓖 .A)) (tables 𝓤 H 𝓜 𝓡 γ .C) (tables 𝓤 H 𝓜 𝓡 γ .Λ) k (f-code g) closed

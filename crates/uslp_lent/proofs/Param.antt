@@ -22,13 +22,24 @@ pub record Param : Type 2 where
   pub ty : Ty
   pub val : row .Denot → Val
   pub tells : Tells row (Is row) (λ x. val x ∷ [])
-  pub typed : {M : Type 1} (𝓤 : URA M) (H : Heap 𝓤) (A : Atoms 𝓤) (W : Given 𝓤 H A) (x : row .Denot) → Is row x (val x ∷ []) → Holds (hasTy ty (val x)) × WT (val x)
+  pub typed : {M : Type 1} (𝓤 : URA M) (H : Heap 𝓤) (A : Atoms 𝓤) (W : Given 𝓤 H A) (x : row .Denot) → Is row x (val x ∷ [])
+      → Holds (hasTy ty (val x)) × WT (val x)
   pub pure : (x : row .Denot) (vs : List Val) → Pure (row .own x vs)
   pub end : (x : row .Denot) → Last (row .exit yes) x
   pub silent : (x : row .Denot) (f : Last (row .exit yes) x) → Exit.left (row .exit yes) x f ≡ ftrue
 
 abbrev uint : (w : Width) → ((x : ℕ) → Holds (hasTy (tyInt w) (vint w x))) → Param
-uint w ok = record { row = UInt w; ty = tyInt w; val = vint w; tells = uint-tells w; typed = λ 𝓤 H A W x is. (ok x, record { fits = is .1 }); pure = λ x vs. (tt, tt); end = λ x. tt; silent = λ x f. refl }
+uint w ok = record {
+  row = UInt w;
+  ty = tyInt w;
+  val = vint w;
+  tells = uint-tells w;
+  typed = λ 𝓤 H A W x is.
+      (ok x, record { fits = is .1 });
+  pure = λ x vs. (tt, tt);
+  end = λ x. tt;
+  silent = λ x f. refl;
+}
 
 abbrev pub u8 : Param
 u8 = uint w8 (λ x. tt)
@@ -37,7 +48,17 @@ abbrev pub u64 : Param
 u64 = uint w64 (λ x. tt)
 
 abbrev pub bool : Param
-bool = record { row = Boolean; ty = tyBool; val = vbool; tells = bool-tells; typed = λ 𝓤 H A W x is. (tt, tt); pure = λ x vs. tt; end = λ x. tt; silent = λ x f. refl }
+bool = record {
+  row = Boolean;
+  ty = tyBool;
+  val = vbool;
+  tells = bool-tells;
+  typed = λ 𝓤 H A W x is.
+      (tt, tt);
+  pure = λ x vs. tt;
+  end = λ x. tt;
+  silent = λ x f. refl;
+}
 
 pub makes : (P : Param) {M : Type 1} (𝓤 : URA M) (H : Heap 𝓤) (A : Atoms 𝓤) → Makes 𝓤 H A (P .row) (Is (P .row))
 makes P 𝓤 H A x vs is = makes-shadow 𝓤 H A (P .row .own x vs) (P .pure x vs) is

@@ -68,5 +68,6 @@ abbrev pub ocf-answer : Result
 ocf-answer = variants Ocf.the-type Ocf′.the-laws tt
 
 -- what an accessor says, of its answer on paper and the part that it shows
-abbrev pub Shows : {B : Type 0} (R : Result) → ((κs : Lfts 1) → R .slot .row κs .Denot → Outcome B) → (TransferFrame → B) → (κs : Lfts 1) → RefT (List ℕ) → FrameFound → R .slot .row κs .Denot → Type 0
+abbrev pub Shows : {B : Type 0} (R : Result) → ((κs : Lfts 1) → R .slot .row κs .Denot → Outcome B) → (TransferFrame → B) → (κs : Lfts 1)
+    → RefT (List ℕ) → FrameFound → R .slot .row κs .Denot → Type 0
 Shows R paper part κs s n r = paper κs r ≡ ofFrame part (paperFrame (n .answer))

@@ -47,13 +47,25 @@ module _ (kind : Kind) where
 
   module _ (P1 : Param) (P2 : Param) (Φ : T .D → P1 .row .Denot → P2 .row .Denot → T .D → S .D → Type 0) (g : Name) where
     abbrev f-signature2 : Signature
-    f-signature2 = record { lifetimes = 1; outlives = []; params = RefMutOf (0 ∷ []) tt (plain (λ _. (SD.row T))) (λ _. tt) ∷ plain (λ _. P1 .row) ∷ plain (λ _. P2 .row) ∷ []; result = plain (λ _. (ED.row S)) }
+    f-signature2 = record {
+      lifetimes = 1;
+      outlives = [];
+      params = RefMutOf (0 ∷ []) tt (plain (λ _. (SD.row T))) (λ _. tt) ∷ plain
+          (λ _. P1 .row) ∷ plain (λ _. P2 .row) ∷ [];
+      result = plain (λ _. (ED.row S));
+    }
 
     abbrev f-ended2 : Ended
     f-ended2 = record { signature = f-signature2; kept = (yes, (yes, (yes, tt))) }
 
     abbrev g-signature2 : Signature
-    g-signature2 = record { lifetimes = 0; outlives = []; params = plain (λ _. (SD.row T)) ∷ plain (λ _. P1 .row) ∷ plain (λ _. P2 .row) ∷ []; result = plain (λ _. (SD.row (D kind))) }
+    g-signature2 = record {
+      lifetimes = 0;
+      outlives = [];
+      params = plain (λ _. (SD.row T)) ∷ plain (λ _. P1 .row) ∷ plain
+          (λ _. P2 .row) ∷ [];
+      result = plain (λ _. (SD.row (D kind)));
+    }
 
     abbrev g-ended2 : Ended
     g-ended2 = record { signature = g-signature2; kept = (yes, (yes, (yes, tt))) }
@@ -63,7 +75,8 @@ module _ (kind : Kind) where
       lifetimes = 1;
       outlives = [];
       params = 3;
-      locals = local (tyS kind) valueLocal ∷ local (tyRef (named 0) mut (pointee ((SD.row T) .written))) valueLocal ∷ local (P1 .ty) valueLocal ∷ local (P2 .ty) valueLocal ∷ local (tyD kind) valueLocal ∷ local (tyT kind) valueLocal ∷ [];
+      locals = local (tyS kind) valueLocal ∷ local (tyRef (named 0) mut (pointee ((SD.row T) .written))) valueLocal ∷ local
+          (P1 .ty) valueLocal ∷ local (P2 .ty) valueLocal ∷ local (tyD kind) valueLocal ∷ local (tyT kind) valueLocal ∷ [];
       body = seq (assign (place 5 []) (rvOpd (copy (place 1 (deref (tyT kind) ∷ [])))))
           (seq (call g (copy (place 5 []) ∷ copy (place 2 []) ∷ copy (place 3 []) ∷ []) (place 4 []))
           (seq (assign (place 1 (deref (tyT kind) ∷ [])) (rvOpd (copy (place 4 (field 0 ∷ [])))))
@@ -83,7 +96,8 @@ module _ (kind : Kind) where
       abbrev pub Callee2 : Contract 𝓤
       Callee2 = tripleOf 𝓤 H A g-signature2 (closing 𝓤 H A g-ended2 g-clauses2)
 
-      module _ (W : Given 𝓤 H A) (κ : Lft) (q : Share) (b o : ℕ) (γ : GName) (h : T .D) (n1 : P1 .row .Denot) (n2 : P2 .row .Denot) (g-n1 : Is (P1 .row) n1 (P1 .val n1 ∷ [])) (g-n2 : Is (P2 .row) n2 (P2 .val n2 ∷ [])) where
+      module _ (W : Given 𝓤 H A) (κ : Lft) (q : Share) (b o : ℕ) (γ : GName) (h : T .D) (n1 : P1 .row .Denot) (n2 : P2 .row .Denot)
+          (g-n1 : Is (P1 .row) n1 (P1 .val n1 ∷ [])) (g-n2 : Is (P2 .row) n2 (P2 .val n2 ∷ [])) where
         abbrev x2 : RefT (T .D) × (P1 .row .Denot × (P2 .row .Denot × Unit {0}))
         x2 = (record { ptr = (b, o); name = γ; now = h }, (n1, (n2, tt)))
 
@@ -93,11 +107,16 @@ module _ (kind : Kind) where
         abbrev Post2 : Val → SProp 𝓤
         Post2 = walkOf 𝓤 H A f-ended2 stayed2 f-clauses2 .post (((κ, tt), (q, tt), tt, x2, at2), tt)
 
-        exits2 : (r : X) → Is (ED.row S) (an r) (aval kind r ∷ []) → Φ h n1 n2 (hd r) (an r) → ent 𝓤 (sep 𝓤 (A .obs γ ((SD.row T) .coded .code (hd r))) (sep 𝓤 (A .bor κ (Sem.Body (mem (SD.row T)) b o γ)) (A .lft κ q))) (Post2 (aval kind r))
+        exits2 : (r : X) → Is (ED.row S) (an r) (aval kind r ∷ []) → Φ h n1 n2 (hd r) (an r)
+            → ent 𝓤 (sep 𝓤 (A .obs γ ((SD.row T) .coded .code (hd r))) (sep 𝓤 (A .bor κ (Sem.Body (mem (SD.row T)) b o γ)) (A .lft κ q)))
+            (Post2 (aval kind r))
         exits2 r isA e =
             qed W (‵ (fobs γ ((SD.row T) .coded .code (hd r))) ∷ ‵ (fbor κ (Sem.Body (mem (SD.row T)) b o γ)) ∷ ‵ (flft κ q) ∷ []) ∵
-            suffices ! _ (ends-at 𝓤 H A f-ended2 stayed2 f-clauses2 W (((κ, tt), (q, tt), tt, x2, at2), tt) (aval kind r) (an r) (hd r, (P1 .end n1, (P2 .end n2, tt))) (tt, (tt, (tt, tt)))) $ says ! e $ nothing ! $ move ! (3 ∷ 0 ∷ []) $ join ! $
-            frame ! $ feqI ! (List Val) (vptr b o ∷ []) (vptr b o ∷ []) refl $ fjoin3 ! $ nothing ! $ owned ! (P2 .row) (Is (P2 .row)) (makes P2 𝓤 H A) n2 _ g-n2 $ fjoin ! $ owned ! (P1 .row) (Is (P1 .row)) (makes P1 𝓤 H A) n1 _ g-n1 $ fjoin ! $ move ! (1 ∷ 0 ∷ []) $ fjoin ! $
+            suffices ! _ (ends-at 𝓤 H A f-ended2 stayed2 f-clauses2 W (((κ, tt), (q, tt), tt, x2, at2), tt) (aval kind r) (an r)
+            (hd r, (P1 .end n1, (P2 .end n2, tt))) (tt, (tt, (tt, tt)))) $ says ! e $ nothing ! $ move ! (3 ∷ 0 ∷ []) $ join ! $
+            frame ! $ feqI ! (List Val) (vptr b o ∷ []) (vptr b o ∷ []) refl $ fjoin3 ! $ nothing ! $ owned ! (P2 .row) (Is (P2 .row))
+            (makes P2 𝓤 H A) n2 _ g-n2 $ fjoin ! $ owned ! (P1 .row) (Is (P1 .row)) (makes P1 𝓤 H A) n1 _ g-n1 $ fjoin ! $ move !
+            (1 ∷ 0 ∷ []) $ fjoin ! $
             owned ! (ED.row S) (Is (ED.row S)) (EL.makes S PS 𝓤 H A) (an r) _ isA $ move ! (1 ∷ 0 ∷ []) $ done !
 
         -- the call: what the callee is passed, what it asks, and what is known of its result
@@ -113,40 +132,66 @@ module _ (kind : Kind) where
         said2 : (r : X) → ent 𝓤 (ensured 𝓤 H A g-ended2 g-clauses2 tt (h, (n1, (n2, tt))) tt r) (fact 𝓤 (Φ h n1 n2 (hd r) (an r)))
         said2 r = exE 𝓤 _ (λ ws. snd∗ 𝓤 (sem 𝓤 H A (lasts g-ended2 tt (h, (n1, (n2, tt))) ws)) (fact 𝓤 (Φ h n1 n2 (hd r) (an r))))
 
-        walk2 : (C : Calls 𝓤 H) (Λ : Loops 𝓤 H) → FmC 𝓤 H (W .laws) C → Triple 𝓤 (C g) Callee2 → ent 𝓤 (onEntry 𝓤 H A f-signature2 (κ, tt) (q, tt) x2 at2) (WpFn 𝓤 H C Λ code2 (vptr b o ∷ P1 .val n1 ∷ P2 .val n2 ∷ []) Post2)
+        walk2 : (C : Calls 𝓤 H) (Λ : Loops 𝓤 H) → FmC 𝓤 H (W .laws) C → Triple 𝓤 (C g) Callee2
+            → ent 𝓤 (onEntry 𝓤 H A f-signature2 (κ, tt) (q, tt) x2 at2) (WpFn 𝓤 H C Λ code2 (vptr b o ∷ P1 .val n1 ∷ P2 .val n2 ∷ []) Post2)
         walk2 C Λ fm known =
-            qed W ((‵ (flft κ q) ⊛ ‵ ftrue) ∷ ‵ (owns (MutRef (named 0) κ (SD.row T) ∷ P1 .row ∷ P2 .row ∷ []) x2 at2) ∷ []) ∵ split ! $ move ! (2 ∷ []) $ fsplit ! $ fsplit3 ! $ drop ! $ move ! (0 ∷ 1 ∷ 3 ∷ []) $
+            qed W ((‵ (flft κ q) ⊛ ‵ ftrue) ∷ ‵ (owns (MutRef (named 0) κ (SD.row T) ∷ P1 .row ∷ P2 .row ∷ []) x2 at2) ∷ []) ∵ split ! $ move !
+            (2 ∷ []) $ fsplit ! $ fsplit3 ! $ drop ! $ move ! (0 ∷ 1 ∷ 3 ∷ []) $
             -- [obs; the borrow; the token; what the parameters own; true]
             enter ! C Λ code2 (vptr b o ∷ P1 .val n1 ∷ P2 .val n2 ∷ []) _ $
-            alloc1 ! (λ l₀. alloc1 ! (λ l₁. alloc1 ! (λ l₂. alloc1 ! (λ l₃. alloc1 ! (λ l₄. alloc1 ! (λ l₅. alloc0 ! $ params1 ! $ pass1 ! (init ! 8 refl (tt, tt)) $ pass1 ! (init ! 6 refl (P1 .typed 𝓤 H A W n1 g-n1)) $ pass1 ! (init ! 4 refl (P2 .typed 𝓤 H A W n2 g-n2)) $ pass0 ! $
-            move ! (12 ∷ 13 ∷ 14 ∷ []) $ opens ! tt (SD.row T) {h = h} b o (λ vs. spelt ! (SD.row T) (Is (SD.row T)) (shows 𝓤 H A (SD.row T)) (LL.vals T LT) (LL.tells T LT) fullShare h vs b o $
+            alloc1 ! (λ l₀. alloc1 ! (λ l₁. alloc1 !
+            (λ l₂. alloc1 ! (λ l₃. alloc1 !
+            (λ l₄. alloc1 ! (λ l₅. alloc0 ! $ params1 ! $ pass1 ! (init ! 8 refl (tt, tt)) $ pass1 !
+            (init ! 6 refl (P1 .typed 𝓤 H A W n1 g-n1)) $ pass1 ! (init ! 4 refl (P2 .typed 𝓤 H A W n2 g-n2)) $ pass0 ! $
+            move ! (12 ∷ 13 ∷ 14 ∷ []) $ opens ! tt (SD.row T) {h = h} b o
+            (λ vs. spelt ! (SD.row T) (Is (SD.row T)) (shows 𝓤 H A (SD.row T)) (LL.vals T LT) (LL.tells T LT) fullShare h vs b o $
             move ! (1 ∷ []) $ peeks ! (SD.row T) (Is (SD.row T)) (shows 𝓤 H A (SD.row T)) h (hval kind h ∷ []) (λ was. move ! (1 ∷ 0 ∷ []) $
             -- [the header's cell; what it owns; the open borrow; obs; auth; the locals, the last first, each with what frees it]
-            assigns ! (of-opd ! (load ! (from ! (hop ! (look ! 13 refl) (stop !))) (look-raw ! 0 refl))) (from ! (stop !)) (init ! 5 refl (LL.lawful T LT 𝓤 H A W .typed h _ was .0)) $
-            nothing ! $ owned ! (P2 .row) (Is (P2 .row)) (makes P2 𝓤 H A) n2 _ g-n2 $ fjoin ! $ owned ! (P1 .row) (Is (P1 .row)) (makes P1 𝓤 H A) n1 _ g-n1 $ fjoin ! $ owned ! (SD.row T) (Is (SD.row T)) (h-makes kind 𝓤 H A) h _ was $ fjoin ! $ nothing ! $ use2 W (raw (Callee2 .pre to2)) asked2 $
-            calls-at ! fm Callee2 known to2 (and-then ! (load ! (from ! (stop !)) (look ! 6 refl)) (and-then ! (load ! (from ! (stop !)) (look ! 12 refl)) (and-then ! (load ! (from ! (stop !)) (look ! 10 refl)) (no-more !)))) (λ u.
-            use1 W (later (some (λ (r : X). (‵ ftrue ⊛ ‵ ((SD.row (D kind)) .own r (u ∷ []))) ⊛ raw (ensured 𝓤 H A g-ended2 g-clauses2 tt (h, (n1, (n2, tt))) tt r)))) (id⊢ 𝓤 _) $ await ! tt $ pick ! (λ r.
+            assigns ! (of-opd ! (load ! (from ! (hop ! (look ! 13 refl) (stop !))) (look-raw ! 0 refl))) (from ! (stop !))
+            (init ! 5 refl (LL.lawful T LT 𝓤 H A W .typed h _ was .0)) $
+            nothing ! $ owned ! (P2 .row) (Is (P2 .row)) (makes P2 𝓤 H A) n2 _ g-n2 $ fjoin ! $ owned ! (P1 .row) (Is (P1 .row))
+            (makes P1 𝓤 H A) n1 _ g-n1 $ fjoin ! $ owned ! (SD.row T) (Is (SD.row T)) (h-makes kind 𝓤 H A) h _ was $ fjoin ! $ nothing ! $ use2 W
+            (raw (Callee2 .pre to2)) asked2 $
+            calls-at ! fm Callee2 known to2
+            (and-then ! (load ! (from ! (stop !)) (look ! 6 refl))
+            (and-then ! (load ! (from ! (stop !)) (look ! 12 refl)) (and-then ! (load ! (from ! (stop !)) (look ! 10 refl)) (no-more !)))) (λ u.
+            use1 W (later (some (λ (r : X). (‵ ftrue ⊛ ‵ ((SD.row (D kind)) .own r (u ∷ []))) ⊛ raw
+            (ensured 𝓤 H A g-ended2 g-clauses2 tt (h, (n1, (n2, tt))) tt r)))) (id⊢ 𝓤 _) $ await ! tt $ pick ! (λ r.
             split ! $ move ! (1 ∷ []) $ use1 W (raw (fact 𝓤 (Φ h n1 n2 (hd r) (an r)))) (said2 r) $ heard ! (Φ h n1 n2 (hd r) (an r)) (λ e. split ! $ drop ! $
             peeks ! (SD.row (D kind)) (Is (SD.row (D kind))) (shows 𝓤 H A (SD.row (D kind))) r (u ∷ []) (λ is.
             -- [what the result owns; the header's cell; what it owns; the open borrow; obs; auth; the locals]
-            land ! (from ! (stop !)) (init ! 8 refl (LL.lawful (D kind) (LD kind) 𝓤 H A W .typed r _ is .0)) $ rewrite ! 8 (λ (w : Val). ‵ (fat fullShare (tyD kind) l₄ 0 w)) (ap only (LL.tells (D kind) (LD kind) r _ is)) refl $
-            assigns ! (of-opd ! (load ! (from ! (fld ! refl (stop !))) (look-in ! 8 (sub ! 0 refl (whole !))))) (from ! (hop ! (look ! 14 refl) (stop !))) (store-raw ! 1 refl (LL.lawful T LT 𝓤 H A W .typed (hd r) _ (LL.owed (D kind) (LD kind) r _ is .0) .0)) $
-            assigns ! (of-opd ! (load ! (from ! (fld ! refl (stop !))) (look-in ! 8 (sub ! 1 refl (whole !))))) (from ! (stop !)) (init ! 16 refl (EL.lawful S LS 𝓤 H A W few .typed (an r) _ (LL.owed (D kind) (LD kind) r _ is .1 .0) .0)) $
-            drop ! $ move ! (1 ∷ []) $ drop ! $ owned ! (SD.row T) (Is (SD.row T)) (h-makes kind 𝓤 H A) (hd r) _ (LL.owed (D kind) (LD kind) r _ is .0) $ move ! (1 ∷ 0 ∷ []) $ closes ! tt (SD.row T) (hd r) (hval kind (hd r) ∷ []) b o $
+            land ! (from ! (stop !)) (init ! 8 refl (LL.lawful (D kind) (LD kind) 𝓤 H A W .typed r _ is .0)) $ rewrite ! 8
+            (λ (w : Val). ‵ (fat fullShare (tyD kind) l₄ 0 w)) (ap only (LL.tells (D kind) (LD kind) r _ is)) refl $
+            assigns ! (of-opd ! (load ! (from ! (fld ! refl (stop !))) (look-in ! 8 (sub ! 0 refl (whole !)))))
+            (from ! (hop ! (look ! 14 refl) (stop !)))
+            (store-raw ! 1 refl (LL.lawful T LT 𝓤 H A W .typed (hd r) _ (LL.owed (D kind) (LD kind) r _ is .0) .0)) $
+            assigns ! (of-opd ! (load ! (from ! (fld ! refl (stop !))) (look-in ! 8 (sub ! 1 refl (whole !))))) (from ! (stop !))
+            (init ! 16 refl (EL.lawful S LS 𝓤 H A W few .typed (an r) _ (LL.owed (D kind) (LD kind) r _ is .1 .0) .0)) $
+            drop ! $ move ! (1 ∷ []) $ drop ! $ owned ! (SD.row T) (Is (SD.row T)) (h-makes kind 𝓤 H A) (hd r) _
+            (LL.owed (D kind) (LD kind) r _ is .0) $ move ! (1 ∷ 0 ∷ []) $ closes ! tt (SD.row T) (hd r) (hval kind (hd r) ∷ []) b o $
             returns ! (look ! 13 refl) $ forget ! 3 refl $ forget ! 5 refl $ forget ! 7 refl $ forget ! 9 refl $ forget ! 11 refl $ forget ! 13 refl $
-            move ! (13 ∷ 14 ∷ []) $ free1 ! $ move ! (11 ∷ 12 ∷ []) $ free1 ! $ move ! (9 ∷ 10 ∷ []) $ free1 ! $ move ! (7 ∷ 8 ∷ []) $ free1 ! $ move ! (5 ∷ 6 ∷ []) $ free1 ! $ move ! (3 ∷ 4 ∷ []) $ free1 ! $ free0 ! $
+            move ! (13 ∷ 14 ∷ []) $ free1 ! $ move ! (11 ∷ 12 ∷ []) $ free1 ! $ move ! (9 ∷ 10 ∷ []) $ free1 ! $ move !
+            (7 ∷ 8 ∷ []) $ free1 ! $ move ! (5 ∷ 6 ∷ []) $ free1 ! $ move ! (3 ∷ 4 ∷ []) $ free1 ! $ free0 ! $
             keep ! (0 ∷ 1 ∷ 2 ∷ []) $ by ! (exits2 r (LL.owed (D kind) (LD kind) r _ is .1 .0) e)))))))))))))
 
       module _ (W : Given 𝓤 H A) where
         goes2 : AllGo 𝓤 H A W 1 (f-signature2 .params) (f-ended2 .kept) stayed2
-        goes2 = (goes-ref 𝓤 H A W 1 0 tt (plain (λ _. (SD.row T))), (goes-none 𝓤 H A W 1 (λ _. P1 .row) yes (λ κs. P1 .silent), (goes-none 𝓤 H A W 1 (λ _. P2 .row) yes (λ κs. P2 .silent), tt)))
+        goes2 = (
+          goes-ref 𝓤 H A W 1 0 tt (plain (λ _. (SD.row T))),
+          (goes-none 𝓤 H A W 1 (λ _. P1 .row) yes (λ κs. P1 .silent), (goes-none 𝓤 H A W 1 (λ _. P2 .row) yes (λ κs. P2 .silent), tt)),
+        )
 
         walks2 : (C : Calls 𝓤 H) (Λ : Loops 𝓤 H) → FmC 𝓤 H (W .laws) C → Triple 𝓤 (C g) Callee2 → Walks 𝓤 H A f-ended2 stayed2 (WpFn 𝓤 H C Λ code2) f-clauses2
-        walks2 C Λ fm known = walked 𝓤 H A f-ended2 stayed2 f-clauses2 (WpFn 𝓤 H C Λ code2) (λ κs. (ptr-vals, ((λ y. P1 .val y ∷ []), ((λ y. P2 .val y ∷ []), tt)))) (λ κs. (mut-tells (named 0) (κs .0) (SD.row T), (P1 .tells, (P2 .tells, tt))))
-            (λ κs qs bounds a _ are. via 𝓤 _ (fst∗ 𝓤 _ (emp 𝓤)) (walk2 W (κs .0) (qs .0) (a .0 .ptr .0) (a .0 .ptr .1) (a .0 .name) (a .0 .now) (a .1 .0) (a .1 .1 .0) (are .1 .0) (are .1 .1 .0) C Λ fm known))
+        walks2 C Λ fm known = walked 𝓤 H A f-ended2 stayed2 f-clauses2 (WpFn 𝓤 H C Λ code2)
+            (λ κs. (ptr-vals, ((λ y. P1 .val y ∷ []), ((λ y. P2 .val y ∷ []), tt))))
+            (λ κs. (mut-tells (named 0) (κs .0) (SD.row T), (P1 .tells, (P2 .tells, tt))))
+            (λ κs qs bounds a _ are. via 𝓤 _ (fst∗ 𝓤 _ (emp 𝓤))
+            (walk2 W (κs .0) (qs .0) (a .0 .ptr .0) (a .0 .ptr .1) (a .0 .name) (a .0 .now) (a .1 .0) (a .1 .1 .0) (are .1 .0)
+            (are .1 .1 .0) C Λ fm known))
 
         pub sets2 : (𝓣 : Tables 𝓤 H) → Triple 𝓤 (𝓣 .C g) Callee2 → Meets 𝓤 H A f-signature2 (WpFn 𝓤 H (𝓣 .C) (𝓣 .Λ) code2) (closing 𝓤 H A f-ended2 f-clauses2)
-        sets2 𝓣 known = walk-meets 𝓤 H A f-ended2 stayed2 W goes2 f-clauses2 (WpFn 𝓤 H (𝓣 .C) (𝓣 .Λ) code2) (WpFn-mono 𝓤 H (W .laws) 𝓣 code2) (walks2 (𝓣 .C) (𝓣 .Λ) (fmOf 𝓤 H (W .laws) 𝓣) known)
+        sets2 𝓣 known = walk-meets 𝓤 H A f-ended2 stayed2 W goes2 f-clauses2 (WpFn 𝓤 H (𝓣 .C) (𝓣 .Λ) code2) (WpFn-mono 𝓤 H (W .laws) 𝓣 code2)
+            (walks2 (𝓣 .C) (𝓣 .Λ) (fmOf 𝓤 H (W .laws) 𝓣) known)
 
     module _ {M : Type 1} (𝓤 : URA M) (H : Heap 𝓤) (A : Atoms 𝓤) where
       abbrev pub Setter2 : Contract 𝓤
@@ -154,7 +199,8 @@ module _ (kind : Kind) where
 
     -- the last lines of a proof: the MIR of `k` in the environment γ, where the callee g runs as the routine r
     module _ {M : Type 1} (𝓤 : URA M) (H : Heap 𝓤) (𝓜 : Model 𝓤 H) (𝓖 : GhostRules 𝓤 H) (𝓡 : Running 𝓤 H 𝓜) (γ : REnv) (k : Name) where
-      pub by-setter2 : Closed 𝓤 H (tables 𝓤 H 𝓜 𝓡 γ .C) (tables 𝓤 H 𝓜 𝓡 γ .Λ) k code2 → (r : Routine) → γ g ≡ r → Triple 𝓤 (𝓡 .run r) (Callee2 𝓤 H (𝓖 .A)) → Triple 𝓤 (𝓡 .run (γ k)) (Setter2 𝓤 H (𝓖 .A))
+      pub by-setter2 : Closed 𝓤 H (tables 𝓤 H 𝓜 𝓡 γ .C) (tables 𝓤 H 𝓜 𝓡 γ .Λ) k code2 → (r : Routine) → γ g ≡ r
+          → Triple 𝓤 (𝓡 .run r) (Callee2 𝓤 H (𝓖 .A)) → Triple 𝓤 (𝓡 .run (γ k)) (Setter2 𝓤 H (𝓖 .A))
       unfolding tablesOf
       by-setter2 closed r e met =
           entered 𝓤 H (Setter2 𝓤 H (𝓖 .A)) (tables 𝓤 H 𝓜 𝓡 γ .C) (tables 𝓤 H 𝓜 𝓡 γ .Λ) k code2 closed

@@ -28,13 +28,16 @@ pub record Small (x : TransferFrame) : Type 0 where
   pub count : x .«primary_header» .«vc_frame_count» < 2 ^ 64
 
 -- seven words
-sum-seven : (a b c d e f g : List ℕ) → length (a ++ (b ++ (c ++ (d ++ (e ++ (f ++ g)))))) ≡ length a + length b + length c + length d + length e + length f + length g
+sum-seven : (a b c d e f g : List ℕ)
+    → length (a ++ (b ++ (c ++ (d ++ (e ++ (f ++ g)))))) ≡ length a + length b + length c + length d + length e + length f + length g
 sum-seven a b c d e f g = simp length-append (omega arith)
 
-pub line-short : (place : ℕ) (x : TransferFrame) → place ≤ 65536 → lenFrame (x .«primary_header») ≤ 65536 → x .«data_len» ≤ 65536 → Small x → length (line place x) ≤ 64
+pub line-short : (place : ℕ) (x : TransferFrame) → place ≤ 65536 → lenFrame (x .«primary_header») ≤ 65536 → x .«data_len» ≤ 65536 → Small x
+    → length (line place x) ≤ 64
 line-short place x h long contents k =
     let hd = x .«primary_header» in
-    let sum = sum-seven (word place) (word (lenFrame hd)) (word (hd .«spacecraft_id»)) (word (hd .«vc_id»)) (word (hd .«map_id»)) (word (hd .«vc_frame_count»)) (decimal (x .«data_len») ++ (10 ∷ [])) in
+    let sum = sum-seven (word place) (word (lenFrame hd)) (word (hd .«spacecraft_id»)) (word (hd .«vc_id»)) (word (hd .«map_id»))
+    (word (hd .«vc_frame_count»)) (decimal (x .«data_len») ++ (10 ∷ [])) in
     let a = word-short 4 place (omega arith) in
     let b = word-short 4 (lenFrame hd) (omega arith) in
     let c = word-short 4 (hd .«spacecraft_id») (omega (arith, k .spacecraft)) in
@@ -60,7 +63,8 @@ lines-end (suc most) place frames = refl
 
 module _ (place frames : ℕ) where
   pub lines-more : (most : ℕ) (s : List ℕ) (x : TransferFrame) → 0 < most → 0 < length s → frameReading s false ≡ done x
-      → linesFrom most s place frames ≡ line place x ++ linesFrom (most - 1) (drop (lenFrame (x .«primary_header»)) s) (place + lenFrame (x .«primary_header»)) (suc frames)
+      → linesFrom most s place frames ≡ line place x ++ linesFrom (most - 1) (drop (lenFrame (x .«primary_header»)) s)
+      (place + lenFrame (x .«primary_header»)) (suc frames)
   unfolding linesFrom
   lines-more zero s x h k e = absurd (omega arith)
   lines-more (suc most) [] x h k e = absurd (omega arith)
@@ -88,7 +92,8 @@ module _ (s t : List ℕ) where
   unfolding listingOver
   over-short h = simp (lt-ltb (length t) room h)
 
-  pub over-done : {end : ℕ} {text left : List ℕ} → room ≤ length t → listing s ≡ text → length text ≤ room → Told text 0 t end left → leaving (done end) left ≡ listingOver s t
+  pub over-done : {end : ℕ} {text left : List ℕ} → room ≤ length t → listing s ≡ text → length text ≤ room → Told text 0 t end left
+      → leaving (done end) left ≡ listingOver s t
   unfolding listingOver
   over-done h is fits p =
       let w = told-whole (omega arith) p in

@@ -124,7 +124,8 @@ module _ (s : List ℕ) (i : ℕ) (oct : AreOctets s) where
   octets-word (suc w) h =
       let x : ℕ = getD s (i + w) 0 in
       let one : octets 1 x ≡ x ∷ [] = ap (λ (y : ℕ). y ∷ []) (omega (arith, oct (i + w))) in
-      let two : octets (w + 1) (word i w s * 256 ^ 1 + x) ≡ octets w (word i w s) ++ octets 1 x = octets-append w 1 (word i w s) x (omega (arith, oct (i + w))) in
+      let two : octets (w + 1) (word i w s * 256 ^ 1 + x) ≡ octets w (word i w s) ++ octets 1 x = octets-append w 1 (word i w s) x
+      (omega (arith, oct (i + w))) in
       let three : take (suc w) (drop i s) ≡ take w (drop i s) ++ (x ∷ []) =
       take-suc (drop i s) w 0 (omega (arith, length-drop i s)) ∙ ap (λ (y : ℕ). take w (drop i s) ++ (y ∷ [])) (getD-drop i s w 0) in
       ap (λ (k : ℕ). octets k (word i w s * 256 + x)) (sym (add-one w)) ∙ two

@@ -43,7 +43,13 @@ layout-read spare h t small f =
     let room : 7 + w ≤ length s = omega (arith, length-append (octets w n) t, length-octets w n) in
     rw (table-split spare h (f .checks-pass))
     (ap (λ (rows : List Field). readingOf rows s) (unpack-pack (fixedTable spare h) 7 refl (octets w n ++ t) (rows-fit spare h small f))
-    ∙ simp (le-ltb (length s) 4 (omega arith), le-ltb (length s) 7 (omega arith), le-ltb (length s) (7 + w) room, word-octets (pack (fixedTable spare h)) t w n (count-in h (f .checks-pass)))
+    ∙ simp (
+      le-ltb (length s) 4 (omega arith),
+      le-ltb (length s) 7 (omega arith),
+      le-ltb (length s) (7 + w) room,
+      word-octets
+          (pack (fixedTable spare h)) t w n (count-in h (f .checks-pass)),
+    )
     (ap done (rows-header spare h)))
 
 -- the checks of reading, as tests, and the header that stands in the octets
@@ -70,7 +76,8 @@ module _ (s : List ℕ) (h : PrimaryHeader) (e : headerReading s ≡ done h) whe
 
   -- three bits say the count's width
   pub read-width : h .«vc_frame_count_len» ≤ 7
-  read-width = let e : headerIn s .«vc_frame_count_len» ≡ h .«vc_frame_count_len» = ap (λ (k : PrimaryHeader). k .«vc_frame_count_len») (read-passed .1) in omega arith
+  read-width = let e : headerIn s .«vc_frame_count_len» ≡ h .«vc_frame_count_len» = ap (λ (k : PrimaryHeader). k .«vc_frame_count_len»)
+      (read-passed .1) in omega arith
 
 -- the header that stands in octets fits, and is laid out as they are
 fitting-in : (s : List ℕ) → AreOctets s → Fitting (headerIn s)

@@ -36,7 +36,8 @@ module _ (h : PrimaryHeader) (s : List ℕ) where
 
   module _ (e : headerChecking h ≡ done h) where
     pub writing-short : length s < lenHeader h → headerWriting h s ≡ leaving (refused 2 (length s ∷ lenHeader h ∷ [])) s
-    writing-short a = answered {o = refused 2 (length s ∷ lenHeader h ∷ [])} (checks-passed h (room h s) (done (lenHeader h)) e ∙ rw (lt-ltb (length s) (lenHeader h) a))
+    writing-short a = answered {o = refused 2 (length s ∷ lenHeader h ∷ [])}
+        (checks-passed h (room h s) (done (lenHeader h)) e ∙ rw (lt-ltb (length s) (lenHeader h) a))
 
     pub writing-done : lenHeader h ≤ length s → headerWriting h s ≡ leaving (done (lenHeader h)) (pack (table 0 h) ++ drop (lenHeader h) s)
     writing-done a = answered {o = done (lenHeader h)} (checks-passed h (room h s) (done (lenHeader h)) e ∙ rw (le-ltb (length s) (lenHeader h) a))

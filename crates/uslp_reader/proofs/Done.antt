@@ -30,7 +30,8 @@ pub record ReadDone (s : List ℕ) (fecf : Bool) (x : TransferFrame) : Type 0 wh
   pub field : fieldReading (drop (lenHeader (x .«primary_header»)) s) ≡ done (x .«data_field_header»)
   pub room : needed (x .«primary_header») (x .«data_field_header») fecf ≤ lenFrame (x .«primary_header»)
   pub check : fecf ≡ true → checksumOf (take (lenFrame (x .«primary_header»)) s) ≡ 0
-  pub frame : x ≡ frameWith (x .«primary_header») (x .«data_field_header») (lenFrame (x .«primary_header») - needed (x .«primary_header») (x .«data_field_header») fecf) s
+  pub frame : x ≡ frameWith (x .«primary_header») (x .«data_field_header»)
+      (lenFrame (x .«primary_header») - needed (x .«primary_header») (x .«data_field_header») fecf) s
 
 -- a checksum that was asked for and passed is 0
 checked : (fecf : Bool) (n : ℕ) → fecf && not (eqb n 0) ≡ false → fecf ≡ true → n ≡ 0

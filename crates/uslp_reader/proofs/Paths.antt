@@ -57,8 +57,10 @@ module _ (s : List ℕ) (fecf : Bool) where
             reading-done = reading-body ∙ simp (le-ltb _ _ room, right fecf _ passes)
 
             -- the same of a frame made with lengths that locals hold
-            pub reading-frame : {x : TransferFrame} {m n : ℕ} → m ≡ lenFrame h → n ≡ needed h f fecf → x ≡ frameWith h f (m - n) s → frameReading s fecf ≡ done x
+            pub reading-frame : {x : TransferFrame} {m n : ℕ} → m ≡ lenFrame h → n ≡ needed h f fecf → x ≡ frameWith h f (m - n) s
+                → frameReading s fecf ≡ done x
             reading-frame p q e = reading-done ∙ ap done (sym (e ∙ ap₂ (λ (a b : ℕ). frameWith h f (a - b) s) p q))
 
-pub contents-there : (x : TransferFrame) (s : List ℕ) → x .«data_start» + x .«data_len» ≤ length s → contentsIn x s ≡ take (x .«data_len») (drop (x .«data_start») s)
+pub contents-there : (x : TransferFrame) (s : List ℕ) → x .«data_start» + x .«data_len» ≤ length s
+    → contentsIn x s ≡ take (x .«data_len») (drop (x .«data_start») s)
 contents-there x s h = simp (le-leb _ _ h)

@@ -105,7 +105,8 @@ module _ (t : Totals) where
   not-full a b d e = simp (le-ltb most (t .«handed_on») a, le-ltb most (t .missing) b, le-ltb most (t .repeats) d, le-ltb most (t .late) e)
 
 -- totals that only grew: those that were too high stay so
-full-grown : (t q : Totals) → t .«handed_on» ≤ q .«handed_on» → t .missing ≤ q .missing → t .repeats ≤ q .repeats → t .late ≤ q .late → overfull t ≡ true → true ≡ overfull q
+full-grown : (t q : Totals) → t .«handed_on» ≤ q .«handed_on» → t .missing ≤ q .missing → t .repeats ≤ q .repeats → t .late ≤ q .late
+    → overfull t ≡ true → true ≡ overfull q
 full-grown t q a b d e f = go (overfull q) refl
   where
     go : (x : Bool) → overfull q ≡ x → true ≡ overfull q
@@ -121,7 +122,8 @@ full-after Repeat n t e = full-grown t (totalsAfter Repeat n t) (omega arith) (o
 full-after Late n t e = full-grown t (totalsAfter Late n t) (omega arith) (omega arith) (omega arith) (omega arith) e
 
 -- a gap that adds less than 2^60 to totals that are not too high wraps nothing
-pub gap-fits : (a : Arrival) (n gap : ℕ) (t : Totals) → a ≡ New gap → overfull t ≡ false → totalsAfter a n t .missing < t .missing + 2 ^ 60 → t .missing + gap < 2 ^ 64
+pub gap-fits : (a : Arrival) (n gap : ℕ) (t : Totals) → a ≡ New gap → overfull t ≡ false → totalsAfter a n t .missing < t .missing + 2 ^ 60
+    → t .missing + gap < 2 ^ 64
 gap-fits a n gap t e f h =
     let g = full-not t f in
     let k : t .missing + gap < t .missing + 2 ^ 60 = subst (λ (x : Arrival). totalsAfter x n t .missing < t .missing + 2 ^ 60) e h in

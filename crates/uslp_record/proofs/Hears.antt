@@ -37,7 +37,8 @@ pub steps-first : (s : Step) (t : SlotState) (n : ℕ) → arrivalAt t n ≡ New
 steps-first s t n a q e = rw (a, q) (e .0, e .1, λ f. e .2)
 
 -- a channel heard before, whose frame is d ahead
-pub steps-later : (s : Step) (state : SlotState) (k : Channel) (w n d : ℕ) (a : Arrival) (t : Totals) → state ≡ Heard k w t → d ≡ ahead w n (t .last) → a ≡ arrivalOf w d →
+pub steps-later : (s : Step) (state : SlotState) (k : Channel) (w n d : ℕ) (a : Arrival) (t : Totals) → state ≡ Heard k w t → d ≡ ahead w n (t .last)
+    → a ≡ arrivalOf w d →
     Steps s a (totalsAfter a n t) → Steps s (arrivalAt state n) (totalsAt state n)
 steps-later s state k w n d a t is e f h = rw is (rw (← e, ← f) h)
 
@@ -82,7 +83,8 @@ module _ (r : ChannelRecord) (k : Channel) (w n : ℕ) where
       others (leb 8 i) (not (eqb w (widthAt (stateAt r i)))) (overfull (totalsAt (stateAt r i) n)) _ _ (simp (le-ltb 7 w narrow) at e)
 
 -- a frame of the channel in its width, by whether a total is full, for whoever knows the slot
-module _ (r : ChannelRecord) (k : Channel) (w n : ℕ) (narrow : w ≤ 7) (there : find k (r .slots) < 8) (u : SlotState) (is : stateAt r (find k (r .slots)) ≡ u) (wide : w ≡ widthAt u) where
+module _ (r : ChannelRecord) (k : Channel) (w n : ℕ) (narrow : w ≤ 7) (there : find k (r .slots) < 8) (u : SlotState)
+    (is : stateAt r (find k (r .slots)) ≡ u) (wide : w ≡ widthAt u) where
   abbrev own : Bool → Step
   own b = record { full = b; arrival = arrivalAt (stateAt r (find k (r .slots))) n; totals = totalsAt (stateAt r (find k (r .slots))) n }
 
@@ -91,7 +93,8 @@ module _ (r : ChannelRecord) (k : Channel) (w n : ℕ) (narrow : w ≤ 7) (there
       judging-full r k w n narrow (find k (r .slots)) refl there w (wide ∙ ap widthAt (sym is)) (own true) refl
       (sym (ap (λ (v : SlotState). overfull (totalsAt v n)) is ∙ e), refl, λ f. refl) refl
 
-  pub judged-done : overfull (totalsAt u n) ≡ false → judging r k w n ≡ done (arrivalAt u n, record { at = find k (r .slots); state = Heard k w (totalsAt u n) })
+  pub judged-done : overfull (totalsAt u n) ≡ false
+      → judging r k w n ≡ done (arrivalAt u n, record { at = find k (r .slots); state = Heard k w (totalsAt u n) })
   judged-done e =
       judging-done r k w n narrow (find k (r .slots)) refl there w (wide ∙ ap widthAt (sym is)) (own false) refl
       (sym (ap (λ (v : SlotState). overfull (totalsAt v n)) is ∙ e), refl, λ f. refl) refl

@@ -133,7 +133,8 @@ closed-empty : (i : ℕ) → stateAt emptyRecord i ≡ Closed
 closed-empty i =
     elim (decLt i 8) [
       | yes h ↦ ap (λ (s : Slot). s .state) (getD-replicate 8 i (slotOf Closed) (slotOf Closed) h)
-      | no h ↦ ap (λ (s : Slot). s .state) (List·getD-eq-default (emptyRecord .slots) (slotOf Closed) {n = i} (omega (arith, length-replicate 8 (slotOf Closed))))
+      | no h ↦ ap (λ (s : Slot). s .state)
+          (List·getD-eq-default (emptyRecord .slots) (slotOf Closed) {n = i} (omega (arith, length-replicate 8 (slotOf Closed))))
     ]
 
 pub made-empty : Made emptyRecord

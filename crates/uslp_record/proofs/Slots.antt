@@ -26,7 +26,8 @@ pub same-one : (a b : Channel) → sameChannel a b ≡ true → a ≡ b
 same-one a b = go (eqb (a .«spacecraft_id») (b .«spacecraft_id»)) (eqb (a .«vc_id») (b .«vc_id»)) refl refl
   where
     go : (x y : Bool) → eqb (a .«spacecraft_id») (b .«spacecraft_id») ≡ x → eqb (a .«vc_id») (b .«vc_id») ≡ y → (x && y) ≡ true → a ≡ b
-    go true true e f h = λ i. record { «spacecraft_id» = eqb-true (a .«spacecraft_id») (b .«spacecraft_id») e i; «vc_id» = eqb-true (a .«vc_id») (b .«vc_id») f i }
+    go true true e f h = λ i. record
+        { «spacecraft_id» = eqb-true (a .«spacecraft_id») (b .«spacecraft_id») e i; «vc_id» = eqb-true (a .«vc_id») (b .«vc_id») f i }
     go true false e f h = absurd (true-false h refl)
     go false y e f h = absurd (true-false h refl)
 

@@ -28,7 +28,8 @@ missing-at : (l : List Slot) (i : ℕ) (d : Slot) → i < length l → missingIn
 unfolding missingIn
 missing-at l i d h = rw (add-one, drop-cons l i d h)
 
-too-much-at : (l : List Slot) (i : ℕ) (d : Slot) → i < length l → tooMuchIn (drop i l) ≡ (ltb most (missingOf (getD l i d .state)) || tooMuchIn (drop (i + 1) l))
+too-much-at : (l : List Slot) (i : ℕ) (d : Slot) → i < length l
+    → tooMuchIn (drop i l) ≡ (ltb most (missingOf (getD l i d .state)) || tooMuchIn (drop (i + 1) l))
 unfolding tooMuchIn
 too-much-at l i d h = rw (add-one, drop-cons l i d h)
 

@@ -68,8 +68,11 @@ judging r k width count =
     ∷ (not (eqb width (widthAt (stateAt r (find k (r .slots))))), refused 14 (width ∷ widthAt (stateAt r (find k (r .slots))) ∷ []))
     ∷ (overfull (totalsAt (stateAt r (find k (r .slots))) count), refused 17 [])
     ∷ [])
-    (done
-    (arrivalAt (stateAt r (find k (r .slots))) count, record { at = find k (r .slots); state = Heard k width (totalsAt (stateAt r (find k (r .slots))) count) }))
+    (done (
+      arrivalAt (stateAt r (find k (r .slots))) count,
+      record
+          { at = find k (r .slots); state = Heard k width (totalsAt (stateAt r (find k (r .slots))) count) },
+    ))
 
 -- a judgement taken over: done, the record has the change; refused, it stays
 abbrev pub taken : {A : Type 0} → ChannelRecord → Outcome (A × Change) → Kept A

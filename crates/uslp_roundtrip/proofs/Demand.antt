@@ -32,7 +32,8 @@ not-missing true (Present n) e = refl
 not-missing false (Present n) e = refl
 
 -- a header passes the checks if it does with length and flag updated
-passes : (c : TransferFrameCreator) (n : ℕ) → headerChecking (completed c n) ≡ done (completed c n) → headerChecking (c .«primary_header») ≡ done (c .«primary_header»)
+passes : (c : TransferFrameCreator) (n : ℕ) → headerChecking (completed c n) ≡ done (completed c n)
+    → headerChecking (c .«primary_header») ≡ done (c .«primary_header»)
 passes c n e =
     let h = completed c n in
     checks-done (c .«primary_header») (channel-in h e) (map-in h e) (width-in h e) (count-in h e)

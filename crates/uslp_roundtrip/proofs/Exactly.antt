@@ -38,7 +38,8 @@ module _ (s : List ℕ) (fecf : Bool) (h : PrimaryHeader) (f : TransferFrameData
       ∙ complete-contents fecf (l .spare) h f contents ocf (drop (lenFrame h) s) (l .spare-fits) (l .well-formed)
 
 -- a frame and its data are read exactly if its fields are laid out at the front of the octets
-pub exactly : (s : List ℕ) (fecf : Bool) (h : PrimaryHeader) (f : TransferFrameDataFieldHeader) (contents : List ℕ) (ocf : OperationalControlField) → AreOctets s
+pub exactly : (s : List ℕ) (fecf : Bool) (h : PrimaryHeader) (f : TransferFrameDataFieldHeader) (contents : List ℕ) (ocf : OperationalControlField)
+    → AreOctets s
     → ((frameReading s fecf ≡ done (frameOf h f contents ocf)) × (contentsIn (frameOf h f contents ocf) s ≡ contents)) ↔ Laid s fecf h f contents ocf
 exactly s fecf h f contents ocf oct = (
   λ e. subst (λ (d : List ℕ). Laid s fecf h f d ocf) (e .1) (laid s fecf (frameOf h f contents ocf) oct (e .0)),
@@ -68,7 +69,8 @@ module _ (s : List ℕ) (oct : AreOctets s) (h : PrimaryHeader) (f : TransferFra
         λ e. both .1 (ap checksumOf before ∙ e ∙ sym last),
       )
 
-  pub passes-exactly : (frameReading s true ≡ done (frameWith h f (lenFrame h - needed h f true) s)) ↔ (checksumOf (take (lenFrame h - 2) s) ≡ word (lenFrame h - 2) 2 s)
+  pub passes-exactly : (frameReading s true ≡ done (frameWith h f (lenFrame h - needed h f true) s)) ↔
+      (checksumOf (take (lenFrame h - 2) s) ≡ word (lenFrame h - 2) 2 s)
   passes-exactly = (
     λ e. stored .0 (read-done s true (frameWith h f (lenFrame h - needed h f true) s) e .check refl),
     λ e.

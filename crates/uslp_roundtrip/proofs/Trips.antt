@@ -58,13 +58,15 @@ module _ (c : TransferFrameCreator) (d s s′ : List ℕ) (n : ℕ) (b : Bounds 
   pub written-read : frameReading s′ (c .«has_fecf») ≡ done (frameOf (completed c n) (c .«data_field_header») d (c .«operational_control_field»))
   written-read =
       ap (λ (t : List ℕ). frameReading t (c .«has_fecf»)) (w .left)
-      ∙ complete (c .«has_fecf») 0 (completed c (total c (length d))) (c .«data_field_header») d (c .«operational_control_field») (drop (total c (length d)) s) (lit< tt) written-fields
+      ∙ complete (c .«has_fecf») 0 (completed c (total c (length d))) (c .«data_field_header») d (c .«operational_control_field»)
+      (drop (total c (length d)) s) (lit< tt) written-fields
       ∙ ap (λ (k : ℕ). done (frameOf (completed c k) (c .«data_field_header») d (c .«operational_control_field»))) (sym (w .is-total))
 
   pub written-contents : contentsIn (frameOf (completed c n) (c .«data_field_header») d (c .«operational_control_field»)) s′ ≡ d
   written-contents =
       ap (contentsIn (frameOf (completed c n) (c .«data_field_header») d (c .«operational_control_field»))) (w .left)
-      ∙ complete-contents (c .«has_fecf») 0 (completed c (total c (length d))) (c .«data_field_header») d (c .«operational_control_field») (drop (total c (length d)) s) (lit< tt) written-fields
+      ∙ complete-contents (c .«has_fecf») 0 (completed c (total c (length d))) (c .«data_field_header») d (c .«operational_control_field»)
+      (drop (total c (length d)) s) (lit< tt) written-fields
 
 -- what a frame that was read is written from
 abbrev pub creatorOf : TransferFrame → Bool → TransferFrameCreator

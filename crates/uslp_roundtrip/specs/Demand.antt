@@ -43,7 +43,8 @@ over c d s =
 
 -- a frame is written exactly if its fields make a frame and have room; what is refused leaves the octets as they were
 pub record Demand2Writer (W : Writer) : Type 0 where
-  pub writes : (c : TransferFrameCreator) (d s : List ℕ) → FieldsOf c d → total c (length d) ≤ length s → W c d s ≡ leaving (done (total c (length d))) (over c d s)
+  pub writes : (c : TransferFrameCreator) (d s : List ℕ) → FieldsOf c d → total c (length d) ≤ length s
+      → W c d s ≡ leaving (done (total c (length d))) (over c d s)
   pub wrote : (c : TransferFrameCreator) (d s s′ : List ℕ) (n : ℕ) → Bounds c d → W c d s ≡ leaving (done n) s′
       → FieldsOf c d × (total c (length d) ≤ length s) × (n ≡ total c (length d)) × (s′ ≡ over c d s)
   pub kept : (c : TransferFrameCreator) (d s s′ : List ℕ) (k : ℕ) (vs : List ℕ) → W c d s ≡ leaving (refused k vs) s′ → s′ ≡ s

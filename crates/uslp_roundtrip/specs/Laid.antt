@@ -23,7 +23,8 @@ frameOf h f contents ocf =
     }
 
 -- the octets begin with the layout of these fields, with some spare bits
-pub record Laid (s : List ℕ) (fecf : Bool) (h : PrimaryHeader) (f : TransferFrameDataFieldHeader) (contents : List ℕ) (ocf : OperationalControlField) : Type 0 where
+pub record Laid (s : List ℕ) (fecf : Bool) (h : PrimaryHeader) (f : TransferFrameDataFieldHeader) (contents : List ℕ)
+    (ocf : OperationalControlField) : Type 0 where
   pub spare : ℕ
   pub spare-fits : spare < 4
   pub well-formed : WellFormed fecf h f contents ocf

@@ -104,7 +104,8 @@ module _ (c : TransferFrameCreator) (d s : List ℕ) (r : Ready c (length d)) (r
       let b = bodyOf c d ++ drop (before c (length d)) s in
       let parts = total-parts c (length d) (r .ocf-given) in
       let lb = length-body c d (r .field-passes) in
-      let long : total c (length d) ≤ length b = omega (arith, length-append (bodyOf c d) (drop (before c (length d)) s), length-drop (before c (length d)) s, lb, parts, room) in
+      let long : total c (length d) ≤ length b = omega
+      (arith, length-append (bodyOf c d) (drop (before c (length d)) s), length-drop (before c (length d)) s, lb, parts, room) in
       rw (finishes b long)
       (ap (leaving (done (total c (length d)))) (body-sealed (c .«has_fecf») (total c (length d)) (before c (length d)) (bodyOf c d) s lb parts))
 
@@ -141,7 +142,8 @@ pub reserve-refused : (c : TransferFrameCreator) (d s s₁ : List ℕ) (n : ℕ)
     → reserving c (length d) s ≡ leaving (refused n vs) s₁ → frameWriting c d s ≡ leaving (refused n vs) s₁
 unfolding reserving frameWriting
 reserve-refused c d s s₁ n vs e =
-    refused-other c (length d) s (reservation c (length d)) (total c (length d)) (reservedOctets c (length d) s) (frameOctets c d ++ drop (total c (length d)) s) e
+    refused-other c (length d) s (reservation c (length d)) (total c (length d)) (reservedOctets c (length d) s)
+    (frameOctets c d ++ drop (total c (length d)) s) e
 
 -- end to end, refusals too: the same answer and the same octets
 pub reserve-fill-finish : (c : TransferFrameCreator) (d s : List ℕ) → inTurn c d s ≡ frameWriting c d s

@@ -79,7 +79,8 @@ module _ (k : TransferFrameCreatorWithReservedData) (s : List ℕ) where
     filling-refused e = rw e
 
     module _ {m : ℕ} (e : finishLength k (length s) ≡ done m) where
-      pub filling-done : filling k d s ≡ leaving (done (min (length d) (k .«data_size»))) (filled k (overlaid d (take (k .«data_size») (drop (k .«data_index») s))) s)
+      pub filling-done : filling k d s ≡ leaving (done (min (length d) (k .«data_size»)))
+          (filled k (overlaid d (take (k .«data_size») (drop (k .«data_index») s))) s)
       filling-done = rw e
 
       -- the part of the buffer that the code lends for copying, put back

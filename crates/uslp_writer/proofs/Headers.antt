@@ -41,12 +41,19 @@ module _ (c : TransferFrameCreator) (octets : ℕ) (s : List ℕ)
     {g : PrimaryHeader} (same : g ≡ completed c octets) {o : Outcome ℕ} {b : List ℕ} (e : leaving o b ≡ headerWriting g s) where
   first-put : b ≡ pack (table 0 (completed c octets)) ++ drop (lenHeader (c .«primary_header»)) s
   first-put =
-      leaving-one (e ∙ ap (λ (x : PrimaryHeader). headerWriting x s) same ∙ header-paths.writing-done (completed c octets) s (completed-passes c octets h) (omega arith)) .1
+      leaving-one (e ∙ ap (λ (x : PrimaryHeader). headerWriting x s) same
+      ∙ header-paths.writing-done (completed c octets) s (completed-passes c octets h) (omega arith)) .1
 
   pub first-length : length b ≡ length s
   first-length =
       ap length first-put
-      ∙ omega (arith, length-append (pack (table 0 (completed c octets))) (drop (lenHeader (c .«primary_header»)) s), header.length-table 0 (completed c octets), length-drop (lenHeader (c .«primary_header»)) s)
+      ∙ omega (
+        arith,
+        length-append (pack (table 0 (completed c octets))) (drop (lenHeader (c .«primary_header»)) s),
+        header.length-table 0
+            (completed c octets),
+        length-drop (lenHeader (c .«primary_header»)) s,
+      )
 
   pub both-put : (at : ℕ) → at ≡ lenHeader g → {p : Outcome ℕ} {ys : List ℕ} → leaving p ys ≡ fieldWriting (c .«data_field_header») (midOf at (length b - at) b)
       → putMid at (length b - at) b ys ≡ headerOctets c octets ++ drop (dataStart (c .«primary_header») (c .«data_field_header»)) s
@@ -54,7 +61,8 @@ module _ (c : TransferFrameCreator) (octets : ℕ) (s : List ℕ)
       let k : at ≡ lenHeader (c .«primary_header») = len ∙ ap lenHeader same in
       let long : length (midOf at (length b - at) b) ≡ length b - at = mid-len at (length b) b (omega arith) in
       let first : b ≡ pack (table 0 (completed c octets)) ++ drop at s = rw k first-put in
-      let w = field-paths.writing-done (c .«data_field_header») (midOf at (length b - at) b) f (lenField (c .«data_field_header»)) refl (omega (arith, long, k, first-length)) in
+      let w = field-paths.writing-done (c .«data_field_header») (midOf at (length b - at) b) f (lenField (c .«data_field_header»)) refl
+      (omega (arith, long, k, first-length)) in
       rw (← k)
       (tail-put at (lenField (c .«data_field_header»)) s b (pack (table 0 (completed c octets))) (pack (fieldTable (c .«data_field_header»))) ys first
       (header.length-table 0 (completed c octets) ∙ sym k) (omega (arith, first-length, k)) (leaving-one (put ∙ w) .1))

@@ -70,8 +70,18 @@ module _ {A : Type 0} (c : TransferFrameCreator) (n : ℕ) (rest : List (Bool ×
 abbrev tests : TransferFrameCreator → ℕ → List Check
 tests c n =
     (ltb 63 (c .«primary_header» .«vc_id») || ltb 15 (c .«primary_header» .«map_id») || ltb 7 (c .«primary_header» .«vc_frame_count_len»), 10, [])
-    ∷ (countBad (c .«primary_header» .«vc_frame_count_len») (c .«primary_header» .«vc_frame_count»), 8, c .«primary_header» .«vc_frame_count» ∷ c .«primary_header» .«vc_frame_count_len» ∷ [])
-    ∷ (pointerBad (c .«data_field_header» .«construction_rule») (c .«data_field_header» .«fhp_or_lvo»), 9, ruleNumber (c .«data_field_header» .«construction_rule») ∷ [])
+    ∷ (
+      countBad (c .«primary_header» .«vc_frame_count_len»)
+          (c .«primary_header» .«vc_frame_count»),
+      8,
+      c .«primary_header» .«vc_frame_count» ∷ c .«primary_header» .«vc_frame_count_len» ∷ [],
+    )
+    ∷ (
+      pointerBad (c .«data_field_header» .«construction_rule») (c .«data_field_header» .«fhp_or_lvo»),
+      9,
+      ruleNumber
+          (c .«data_field_header» .«construction_rule») ∷ [],
+    )
     ∷ (ocfMissing c, 11, [])
     ∷ (ltb 65536 (total c n), 12, [])
     ∷ []
@@ -117,7 +127,8 @@ module _ (c : TransferFrameCreator) (n : ℕ) {m : ℕ} (e : frameLength c n ≡
   pub given-ready : Ready c n × (total c n ≡ m)
   unfolding frameLength
   given-ready =
-      let f = field.checks-done (c .«data_field_header») (own c n [] (done (total c n))) (done (total c n)) (sym (past-header c n [] (done (total c n)) header-good) ∙ e) in
+      let f = field.checks-done (c .«data_field_header») (own c n [] (done (total c n))) (done (total c n))
+      (sym (past-header c n [] (done (total c n)) header-good) ∙ e) in
       let o = passed 11 [] (ocfMissing c) _ (f .1) in
       let t = passed 12 [] (ltb 65536 (total c n)) _ (o .1) in (
         record { header-passes = header-good; field-passes = f .0; ocf-given = o .0; fits = ltb-false _ _ (t .0) },
@@ -125,7 +136,8 @@ module _ (c : TransferFrameCreator) (n : ℕ) {m : ℕ} (e : frameLength c n ≡
       )
 
 -- the octets besides the data are few
-pub needed-in : (c : TransferFrameCreator) → headerChecking (c .«primary_header») ≡ done (c .«primary_header») → needed (flagged c) (c .«data_field_header») (c .«has_fecf») ≤ 23
+pub needed-in : (c : TransferFrameCreator) → headerChecking (c .«primary_header») ≡ done (c .«primary_header»)
+    → needed (flagged c) (c .«data_field_header») (c .«has_fecf») ≤ 23
 needed-in c h =
     omega (
       arith,

@@ -60,7 +60,8 @@ behind-put start n m s p o lp =
 
 -- the FECF put behind a body, if asked for
 pub body-sealed : (b : Bool) (total long : ℕ) (body s : List ℕ) → length body ≡ long → total ≡ long + cond b 2 0
-    → cond b (withFecf true (take (total - 2) (body ++ drop long s)) ++ drop total (body ++ drop long s)) (body ++ drop long s) ≡ withFecf b body ++ drop total s
+    → cond b (withFecf true (take (total - 2) (body ++ drop long s)) ++ drop total (body ++ drop long s))
+    (body ++ drop long s) ≡ withFecf b body ++ drop total s
 body-sealed true total long body s lb e =
     let less : total - 2 ≡ long = omega arith in
     rw (less, take-at body (drop long s) long lb, e, drop-past body (drop long s) long 2 lb, drop-drop 2 long s)

@@ -49,5 +49,11 @@ module _ (c : TransferFrameCreator) (n m : ℕ) (s : List ℕ) (e : frameLength 
     reserved-put y left = (
       ap₂ (λ (i t : ℕ). reservedAt c n i t) at (sym (given-ready c n e .1)),
       left
-          ∙ rw (put, behind-put start n (length (ocfOctets (c .«operational_control_field»))) s (headerOctets c m) (ocfOctets (c .«operational_control_field»)) length-front, at, ← given-ready c n e .1),
+          ∙ rw (
+            put,
+            behind-put start n (length (ocfOctets (c .«operational_control_field»))) s (headerOctets c m)
+                (ocfOctets (c .«operational_control_field»)) length-front,
+            at,
+            ← given-ready c n e .1,
+          ),
     )

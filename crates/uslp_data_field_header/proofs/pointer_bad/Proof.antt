@@ -10,7 +10,8 @@ returns : tie.Need-returns
 returns c = c .applicable-to-fixed-len-tfdz .ensures ∙ sym (ap (pointerBad (c .before .before .before .args .rule)) (c .before .enum-told .given .1))
 
 returns-2 : tie.Need-returns-2
-returns-2 c = ap not (c .applicable-to-fixed-len-tfdz2 .ensures) ∙ sym (ap (pointerBad (c .before .before .before .args .rule)) (c .before .enum-told2 .given .1))
+returns-2 c = ap not (c .applicable-to-fixed-len-tfdz2 .ensures)
+    ∙ sym (ap (pointerBad (c .before .before .before .args .rule)) (c .before .enum-told2 .given .1))
 
 pub pointer-bad-spec : {M : Type 1} → statement M
 pointer-bad-spec =

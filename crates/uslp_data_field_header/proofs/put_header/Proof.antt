@@ -30,10 +30,12 @@ slice-write-buf c =
 
 part-put-number-end : tie.Need-part-put-number-end
 part-put-number-end c =
-    let l = c .before .before .before .before .before .before in
+    let c5 = c .before .before .before .before .before in
+    let c6 = c5 .before in
+    let l = c6 in
     let a = l .before .before in
     let three = pointer-len (a .args .header) (a .pre) _ (c .before .pointer .given .1) in
-    simp length-set (omega (arith, three, l .len-header .ensures, c .before .before .before .before .before .if1 .left))
+    simp length-set (omega (arith, three, l .len-header .ensures, c5 .if1 .left))
 
 same-length : tie.Need-same-length
 same-length c = c .before .buf .given .1 ∙ simp length-set

@@ -40,7 +40,8 @@ rest d = drop (loopOf d .loop .place) (startOf (loopOf d) .args .recording .now)
 answered : (d : tie.After-from-bytes Inv-loop μ-loop) {r : FrameAnswer} → d .from-bytes .result ≡ r → frameReading (rest d) false ≡ paperFrame r
 answered d e =
     let place = loopOf d .loop .place in
-    ap (λ (t : List ℕ). frameReading t false) (sym (rest-part (startOf (loopOf d) .args .recording .now) place place refl)) ∙ sym (d .from-bytes .ensures) ∙ ap paperFrame e
+    ap (λ (t : List ℕ). frameReading t false) (sym (rest-part (startOf (loopOf d) .args .recording .now) place place refl))
+    ∙ sym (d .from-bytes .ensures) ∙ ap paperFrame e
 
 -- the frame, from behind its line; and its reading
 abbrev frameOf : tie.After-len-frame Inv-loop μ-loop → tie.After-known-told Inv-loop μ-loop
@@ -82,7 +83,8 @@ same-length : tie.Need-same-length Inv-loop μ-loop
 same-length c = told-long (returns c .0)
 
 returns-2 : tie.Need-returns-2 Inv-loop μ-loop
-returns-2 c = let l = c .before .before .before .before .before in passed-all (startOf l .pre) (l .loop .inv) (omega arith) (c .before .before .put-summary2 .ensures)
+returns-2 c = let l = c .before .before .before .before .before in
+    passed-all (startOf l .pre) (l .loop .inv) (omega arith) (c .before .before .put-summary2 .ensures)
 
 same-length-2 : tie.Need-same-length-2 Inv-loop μ-loop
 same-length-2 c = told-long (returns-2 c .0)

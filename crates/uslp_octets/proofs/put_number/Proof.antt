@@ -18,8 +18,13 @@ abbrev μ-loop : tie.MeasureT-loop
 
 loop-holds : tie.Need-loop-holds Inv-loop μ-loop
 loop-holds c =
-    let a = c .args in
-    (omega arith, refl, rest-all 256 (length (a .to .now)) (a .value), filled-none (λ (k : ℕ). octets k (a .value)) (λ (k : ℕ). a .value / 256 ^ k % 256) (λ k. refl) (a .to .now) refl)
+    let a = c .args in (
+      omega arith,
+      refl,
+      rest-all 256 (length (a .to .now)) (a .value),
+      filled-none (λ (k : ℕ). octets k (a .value))
+          (λ (k : ℕ). a .value / 256 ^ k % 256) (λ k. refl) (a .to .now) refl,
+    )
 
 loop-again : tie.Need-loop-again Inv-loop μ-loop
 loop-again c =

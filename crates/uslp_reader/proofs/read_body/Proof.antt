@@ -47,7 +47,8 @@ returns-3 c =
     let start = d .before .before .before .before in
     let part = first-part (start .args .buf .now) _ _ l in
     sym
-    (reading-frame _ _ _ (start .pre .0) (start .pre .1) _ (start .pre .2) (room d) (λ t. omega (arith, c .before .if3 .left, k .checksum .ensures, ap checksumOf part))
+    (reading-frame _ _ _ (start .pre .0) (start .pre .1) _ (start .pre .2) (room d)
+    (λ t. omega (arith, c .before .if3 .left, k .checksum .ensures, ap checksumOf part))
     l (d .before .needed-len .ensures) (c .frame-of .ensures))
 
 returns-4 : tie.Need-returns-4

@@ -52,7 +52,8 @@ returns-3 c =
     let k = d .before .before .before in
     let start = k .before .before .before in
     sym
-    (reading-field _ _ (start .args .header) (start .pre) (omega (arith, k .before .len-frame .ensures, k .if1 .left)) (answered d (c .before .refusal .given .1)))
+    (reading-field _ _ (start .args .header) (start .pre) (omega (arith, k .before .len-frame .ensures, k .if1 .left))
+    (answered d (c .before .refusal .given .1)))
 
 pub read-whole-spec : {M : Type 1} → statement M
 read-whole-spec =

@@ -20,8 +20,11 @@ loop-again : tie.Need-loop-again Inv-loop μ-loop
 loop-again c =
     let l = c .before .before .before .before in
     let s = l .before .before in
-    let long = long-of (s .args .channels .slots) (s .good .0 .1 .1 .0 .1 .0 .1) in
-    (omega arith, seek-on isClosed vacant vacates (s .args .channels .slots) (l .loop .i) long (l .loop .inv .1) (slotOf Closed) _ (omega arith) (c .before .state-closed .ensures) (c .if2 .left))
+    let long = long-of (s .args .channels .slots) (s .good .0 .1 .1 .0 .1 .0 .1) in (
+      omega arith,
+      seek-on isClosed vacant vacates (s .args .channels .slots) (l .loop .i) long (l .loop .inv .1) (slotOf Closed) _ (omega arith)
+          (c .before .state-closed .ensures) (c .if2 .left),
+    )
 
 returns : tie.Need-returns Inv-loop μ-loop
 returns c =
@@ -34,7 +37,8 @@ returns-2 c =
     let l = c .before .before .before .before in
     let s = l .before .before in
     let long = long-of (s .args .channels .slots) (s .good .0 .1 .1 .0 .1 .0 .1) in
-    seek-hit isClosed vacant vacates (s .args .channels .slots) (l .loop .i) long (l .loop .inv .1) (slotOf Closed) _ (omega arith) (c .before .state-closed .ensures) (c .if2 .taken)
+    seek-hit isClosed vacant vacates (s .args .channels .slots) (l .loop .i) long (l .loop .inv .1) (slotOf Closed) _ (omega arith)
+    (c .before .state-closed .ensures) (c .if2 .taken)
 
 pub first-closed-spec : {M : Type 1} → statement M
 first-closed-spec =

@@ -21,8 +21,11 @@ loop-again c =
     let l = c .before .before .before .before in
     let s = l .before .before in
     let k = s .args .channel in
-    let long = long-of (s .args .channels .slots) (s .good .0 .1 .1 .0 .1 .0 .1) in
-    (omega arith, seek-on (holds k) (find k) (finds k) (s .args .channels .slots) (l .loop .i) long (l .loop .inv .1) (slotOf Closed) _ (omega arith) (c .before .state-holds .ensures) (c .if2 .left))
+    let long = long-of (s .args .channels .slots) (s .good .0 .1 .1 .0 .1 .0 .1) in (
+      omega arith,
+      seek-on (holds k) (find k) (finds k) (s .args .channels .slots) (l .loop .i) long (l .loop .inv .1) (slotOf Closed) _ (omega arith)
+          (c .before .state-holds .ensures) (c .if2 .left),
+    )
 
 returns : tie.Need-returns Inv-loop μ-loop
 returns c =
@@ -37,7 +40,8 @@ returns-2 c =
     let s = l .before .before in
     let k = s .args .channel in
     let long = long-of (s .args .channels .slots) (s .good .0 .1 .1 .0 .1 .0 .1) in
-    seek-hit (holds k) (find k) (finds k) (s .args .channels .slots) (l .loop .i) long (l .loop .inv .1) (slotOf Closed) _ (omega arith) (c .before .state-holds .ensures) (c .if2 .taken)
+    seek-hit (holds k) (find k) (finds k) (s .args .channels .slots) (l .loop .i) long (l .loop .inv .1) (slotOf Closed) _ (omega arith)
+    (c .before .state-holds .ensures) (c .if2 .taken)
 
 pub search-spec : {M : Type 1} → statement M
 search-spec =

@@ -44,8 +44,10 @@ returns c =
     let d = p .before .before .before .before .before in
     let a = d .before .before .before .before .args in
     let n = d .before .before .decimal-len .result in
-    let long : length (d .put-decimal .last .1 .0) ≡ n = ap length (numeral d) ∙ length-digits (width (a .value)) (a .value) ∙ sym (d .before .before .decimal-len .ensures) in
-    subst (λ (t : List ℕ). Told t (a .at) (a .out .now) (p .put-text .result) (p .put-text .last .1 .0)) (take-at (d .put-decimal .last .1 .0) _ (n - 0) (omega (arith, long)) ∙ numeral d) (p .put-text .ensures)
+    let long : length (d .put-decimal .last .1 .0) ≡ n = ap length (numeral d) ∙ length-digits (width (a .value)) (a .value)
+    ∙ sym (d .before .before .decimal-len .ensures) in
+    subst (λ (t : List ℕ). Told t (a .at) (a .out .now) (p .put-text .result) (p .put-text .last .1 .0))
+    (take-at (d .put-decimal .last .1 .0) _ (n - 0) (omega (arith, long)) ∙ numeral d) (p .put-text .ensures)
 
 pub put-number-spec : {M : Type 1} → statement M
 put-number-spec =

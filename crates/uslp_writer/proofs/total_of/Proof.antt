@@ -36,19 +36,25 @@ returns-2 c =
 
 add-total : tie.Need-add-total
 add-total c =
-    let a = c .before .before .before .before .before .before in
-    omega (arith, besides c, needed-in (a .args .frame) (a .pre .0), a, c .before .before .before .if2 .left)
+    let c3 = c .before .before .before in
+    let c6 = c3 .before .before .before in
+    let a = c6 in
+    omega (arith, besides c, needed-in (a .args .frame) (a .pre .0), a, c3 .if2 .left)
 
 returns-3 : tie.Need-returns-3
 returns-3 c =
-    let a = c .before .before .before .before .before .before .before in
+    let c5 = c .before .before .before .before .before in
+    let c7 = c5 .before .before in
+    let a = c7 in
     sym
-    (length-long (a .args .frame) (a .args .data-len) (a .pre .0) (a .pre .1) (given (c .before .before .before .before .before))
+    (length-long (a .args .frame) (a .args .data-len) (a .pre .0) (a .pre .1) (given (c5))
     (omega (arith, c .if3 .taken, besides (c .before))))
 
 returns-4 : tie.Need-returns-4
 returns-4 c =
-    let a = c .before .before .before .before .before .before .before in
+    let c5 = c .before .before .before .before .before in
+    let c7 = c5 .before .before in
+    let a = c7 in
     let e = besides (c .before) in
     ap (λ (k : ℕ). done (k + a .args .data-len)) e
     ∙ sym
@@ -56,7 +62,7 @@ returns-4 c =
     (record {
       header-passes = a .pre .0;
       field-passes = a .pre .1;
-      ocf-given = given (c .before .before .before .before .before);
+      ocf-given = given (c5);
       fits = omega (arith, c .if3 .left, e);
     }))
 

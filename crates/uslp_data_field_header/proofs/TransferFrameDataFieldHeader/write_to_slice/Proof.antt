@@ -20,7 +20,8 @@ returns c =
     let d = h .before .before in
     let a = d .before .before .args in
     c .before .before .put-header .ensures
-    ∙ ap (λ (g : TransferFrameDataFieldHeader). fieldWriting g (a .buf .now)) (checking-same (a .self) (sym (d .checked .ensures) ∙ ap paperField (h .header .given .1)))
+    ∙ ap (λ (g : TransferFrameDataFieldHeader). fieldWriting g (a .buf .now))
+    (checking-same (a .self) (sym (d .checked .ensures) ∙ ap paperField (h .header .given .1)))
 
 returns-2 : tie.Need-returns-2
 returns-2 c =

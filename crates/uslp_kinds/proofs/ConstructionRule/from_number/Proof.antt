@@ -30,7 +30,9 @@ returns-7 c = rw (c .match .keys7)
 returns-8 : tie.Need-returns-8
 returns-8 c =
     let r = c .match .rest in
-    let seven : 7 ≤ c .before .args .number % 8 = past _ 6 (past _ 5 (past _ 4 (past _ 3 (past _ 2 (past _ 1 (past _ 0 (omega arith) (r .0 .0 .0 .0 .0 .0 .1)) (r .0 .0 .0 .0 .0 .1)) (r .0 .0 .0 .0 .1)) (r .0 .0 .0 .1)) (r .0 .0 .1)) (r .0 .1)) (r .1) in
+    let seven : 7 ≤ c .before .args .number % 8 = past _ 6
+    (past _ 5 (past _ 4 (past _ 3 (past _ 2 (past _ 1 (past _ 0 (omega arith) (r .0 .0 .0 .0 .0 .0 .1)) (r .0 .0 .0 .0 .0 .1)) (r .0 .0 .0 .0 .1))
+    (r .0 .0 .0 .1)) (r .0 .0 .1)) (r .0 .1)) (r .1) in
     let z : c .before .args .number % 8 ≡ 7 = omega arith in
     rw z
 

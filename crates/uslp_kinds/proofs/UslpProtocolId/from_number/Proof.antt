@@ -41,7 +41,13 @@ returns-11 : tie.Need-returns-11
 returns-11 c =
     let r = c .match .rest in
     let n = c .before .args .number in
-    simp (le-ltb n 9 (past _ 8 (past _ 7 (past _ 6 (past _ 5 (past _ 4 (past _ 3 (past _ 2 (past _ 1 (past _ 0 (omega arith) (r .0 .0 .0 .0 .0 .0 .0 .0 .0 .1)) (r .0 .0 .0 .0 .0 .0 .0 .0 .1)) (r .0 .0 .0 .0 .0 .0 .0 .1)) (r .0 .0 .0 .0 .0 .0 .1)) (r .0 .0 .0 .0 .0 .1)) (r .0 .0 .0 .0 .1)) (r .0 .0 .0 .1)) (r .0 .0 .1)) (r .0 .1)), ne-eqb n 31 (r .1))
+    simp (
+      le-ltb n 9 (past _ 8 (past _ 7
+          (past _ 6 (past _ 5 (past _ 4
+          (past _ 3 (past _ 2 (past _ 1 (past _ 0 (omega arith) (r .0 .0 .0 .0 .0 .0 .0 .0 .0 .1)) (r .0 .0 .0 .0 .0 .0 .0 .0 .1))
+          (r .0 .0 .0 .0 .0 .0 .0 .1)) (r .0 .0 .0 .0 .0 .0 .1)) (r .0 .0 .0 .0 .0 .1)) (r .0 .0 .0 .0 .1)) (r .0 .0 .0 .1)) (r .0 .0 .1)) (r .0 .1)),
+      ne-eqb n 31 (r .1),
+    )
 
 pub from-number-spec : {M : Type 1} → statement M
 from-number-spec =

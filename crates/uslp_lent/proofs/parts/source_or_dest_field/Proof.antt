@@ -6,7 +6,8 @@ use Rattle.uslp_lent.proofs.parts.source_or_dest_field.Statement.{state
 use Rattle.uslp_lent.proofs.parts.source_or_dest_field.Tie as tie
 
 returns : tie.Need-returns
-returns c = done-arm (λ (x : TransferFrame). x .«primary_header» .«source_or_dest_field») _ _ _ (c .before .before .answer .given .1) (c .source-or-dest-field .ensures)
+returns c = done-arm (λ (x : TransferFrame). x .«primary_header» .«source_or_dest_field») _ _ _ (c .before .before .answer .given .1)
+    (c .source-or-dest-field .ensures)
 
 returns-2 : tie.Need-returns-2
 returns-2 c = refused-arm (λ (x : TransferFrame). x .«primary_header» .«source_or_dest_field») _ _ (c .before .answer2 .given .1)

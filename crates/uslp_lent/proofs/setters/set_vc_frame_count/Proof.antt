@@ -12,4 +12,5 @@ use Rattle.uslp_lent.proofs.setters.set_vc_frame_count.Code as code
 pub set-vc-frame-count-spec : {M : Type 1} → statement M
 unfolding code.routine
 set-vc-frame-count-spec 𝓤 H 𝓜 𝓖 𝓡 =
-    by-setter2 header u8 u64 (λ h w n. Settled h (countSetting h w n)) callee.name 𝓤 H 𝓜 𝓖 𝓡 code.env key.name (code.unfolded 𝓤 H 𝓜 𝓡) callee.routine code.calls-uslp-lent·setters·decide-vc-frame-count (callee-thm.met 𝓤 H 𝓜 𝓖 𝓡)
+    by-setter2 header u8 u64 (λ h w n. Settled h (countSetting h w n)) callee.name 𝓤 H 𝓜 𝓖 𝓡 code.env key.name
+    (code.unfolded 𝓤 H 𝓜 𝓡) callee.routine code.calls-uslp-lent·setters·decide-vc-frame-count (callee-thm.met 𝓤 H 𝓜 𝓖 𝓡)

@@ -18,12 +18,14 @@ returns-3 c = sym (checks-width _ (c .before .before .before .if1 .left) (c .bef
 returns-4 : tie.Need-returns-4
 returns-4 c =
     let e = c .before .before in
-    sym (checks-count _ (e .before .before .before .if1 .left) (e .before .if2 .left) (e .if3 .left) (leb-true _ _ (sym (c .before .count-bad .ensures) ∙ c .if4 .taken)))
+    sym (checks-count _ (e .before .before .before .if1 .left) (e .before .if2 .left) (e .if3 .left)
+    (leb-true _ _ (sym (c .before .count-bad .ensures) ∙ c .if4 .taken)))
 
 returns-5 : tie.Need-returns-5
 returns-5 c =
     let e = c .before .before in
-    sym (checks-done _ (e .before .before .before .if1 .left) (e .before .if2 .left) (e .if3 .left) (leb-false _ _ (sym (c .before .count-bad .ensures) ∙ c .if4 .left)))
+    sym (checks-done _ (e .before .before .before .if1 .left) (e .before .if2 .left) (e .if3 .left)
+    (leb-false _ _ (sym (c .before .count-bad .ensures) ∙ c .if4 .left)))
 
 pub checked-spec : {M : Type 1} → statement M
 checked-spec =

@@ -8,7 +8,8 @@ use Rattle.uslp_primary_header.proofs.fixed.header_of.Tie as tie
 
 returns : tie.Need-returns
 returns c =
-    header-eq refl (c .before .before .from-number .ensures) refl refl refl (c .before .from-number2 .ensures) (c .from-number3 .ensures) refl (omega arith) refl
+    header-eq refl (c .before .before .from-number .ensures) refl refl refl (c .before .from-number2 .ensures) (c .from-number3 .ensures) refl
+    (omega arith) refl
 
 pub header-of-spec : {M : Type 1} → statement M
 header-of-spec =

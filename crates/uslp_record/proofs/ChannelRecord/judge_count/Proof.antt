@@ -20,14 +20,16 @@ returns-3 : tie.Need-returns-3
 returns-3 c =
     let b = c .before .before .before .before .before in
     let a = b .before .before .args in
-    sym (judging-width (a .self) (a .channel) (a .width) (a .count) (omega arith) _ (b .search .ensures) (omega arith) _ (c .before .width-of .ensures) (c .if3 .taken))
+    sym (judging-width (a .self) (a .channel) (a .width) (a .count) (omega arith) _ (b .search .ensures) (omega arith) _
+    (c .before .width-of .ensures) (c .if3 .taken))
 
 returns-4 : tie.Need-returns-4
 returns-4 c =
     let e = c .before .before .before in
     let b = e .before .before .before .before in
     let a = b .before .before .args in
-    sym (judging-full (a .self) (a .channel) (a .width) (a .count) (omega arith) _ (b .search .ensures) (omega arith) _ (e .width-of .ensures) (c .before .step-of .result) (c .before .before .if3 .left) (c .before .step-of .ensures) (c .if4 .taken))
+    sym (judging-full (a .self) (a .channel) (a .width) (a .count) (omega arith) _ (b .search .ensures) (omega arith) _ (e .width-of .ensures)
+    (c .before .step-of .result) (c .before .before .if3 .left) (c .before .step-of .ensures) (c .if4 .taken))
 
 returns-5 : tie.Need-returns-5
 returns-5 c =
@@ -35,7 +37,8 @@ returns-5 c =
     let e = t .before .before in
     let b = e .before .before .before .before in
     let a = b .before .before .args in
-    sym (judging-done (a .self) (a .channel) (a .width) (a .count) (omega arith) _ (b .search .ensures) (omega arith) _ (e .width-of .ensures) (t .step-of .result) (t .before .if3 .left) (t .step-of .ensures) (c .before .if4 .left))
+    sym (judging-done (a .self) (a .channel) (a .width) (a .count) (omega arith) _ (b .search .ensures) (omega arith) _ (e .width-of .ensures)
+    (t .step-of .result) (t .before .if3 .left) (t .step-of .ensures) (c .before .if4 .left))
 
 pub judge-count-spec : {M : Type 1} → statement M
 judge-count-spec =

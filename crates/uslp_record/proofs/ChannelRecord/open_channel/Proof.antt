@@ -27,20 +27,34 @@ returns-3 c =
 
 returns-4 : tie.Need-returns-4
 returns-4 c =
-    let a = c .before .before .before .before .before .before .before .args in
+    let c4 = c .before .before .before .before in
+    let c7 = c4 .before .before .before in
+    let a = c7 .args in
     let e = c .refused4 .ensures in
-    joined (ap paperDone (e .0)) (e .1) ∙ opening-twice (a .self) (a .channel) (a .width) (omega arith) (c .before .before .before .before .if2 .left) (omega arith) _ (c .before .before .search .ensures) (omega arith)
+    joined (ap paperDone (e .0)) (e .1)
+    ∙ opening-twice (a .self) (a .channel) (a .width) (omega arith) (c4 .if2 .left) (omega arith) _
+    (c .before .before .search .ensures) (omega arith)
 
 returns-5 : tie.Need-returns-5
 returns-5 c =
-    let a = c .before .before .before .before .before .before .before .before .before .args in
+    let c4 = c .before .before .before .before in
+    let c6 = c4 .before .before in
+    let c9 = c6 .before .before .before in
+    let a = c9 .args in
     let e = c .refused5 .ensures in
-    joined (ap paperDone (e .0)) (e .1) ∙ opening-full (a .self) (a .channel) (a .width) (omega arith) (c .before .before .before .before .before .before .if2 .left) (omega arith) _ (c .before .before .before .before .search .ensures) (omega arith) _ (c .before .before .first-closed .ensures) (omega arith)
+    joined (ap paperDone (e .0)) (e .1)
+    ∙ opening-full (a .self) (a .channel) (a .width) (omega arith) (c6 .if2 .left) (omega arith) _
+    (c4 .search .ensures) (omega arith) _ (c .before .before .first-closed .ensures) (omega arith)
 
 returns-6 : tie.Need-returns-6
 returns-6 c =
-    let a = c .before .before .before .before .before .before .before .before .before .args in
-    joined refl (c .with-change .ensures) ∙ opening-done (a .self) (a .channel) (a .width) (omega arith) (c .before .before .before .before .before .before .if2 .left) (omega arith) _ (c .before .before .before .before .search .ensures) (omega arith) _ (c .before .before .first-closed .ensures) (omega arith)
+    let c4 = c .before .before .before .before in
+    let c6 = c4 .before .before in
+    let c9 = c6 .before .before .before in
+    let a = c9 .args in
+    joined refl (c .with-change .ensures)
+    ∙ opening-done (a .self) (a .channel) (a .width) (omega arith) (c6 .if2 .left) (omega arith) _
+    (c4 .search .ensures) (omega arith) _ (c .before .before .first-closed .ensures) (omega arith)
 
 pub open-channel-spec : {M : Type 1} → statement M
 open-channel-spec =

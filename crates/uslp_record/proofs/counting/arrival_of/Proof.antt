@@ -9,10 +9,12 @@ returns : tie.Need-returns
 returns c = let a = c .before .args in arrives-again (a .width) (a .d) (c .if1 .taken)
 
 returns-2 : tie.Need-returns-2
-returns-2 c = let a = c .before .before .before .args in arrives-new (a .width) (a .d) (c .before .before .if1 .left) _ (c .before .counts .ensures) (omega arith)
+returns-2 c = let a = c .before .before .before .args in
+    arrives-new (a .width) (a .d) (c .before .before .if1 .left) _ (c .before .counts .ensures) (omega arith)
 
 returns-3 : tie.Need-returns-3
-returns-3 c = let a = c .before .before .before .args in arrives-late (a .width) (a .d) (c .before .before .if1 .left) _ (c .before .counts .ensures) (omega arith)
+returns-3 c = let a = c .before .before .before .args in
+    arrives-late (a .width) (a .d) (c .before .before .if1 .left) _ (c .before .counts .ensures) (omega arith)
 
 pub arrival-of-spec : {M : Type 1} → statement M
 arrival-of-spec = tie.close (tie.spec returns (λ c κs. search needs) (λ c. search needs) returns-2 returns-3)

@@ -9,10 +9,20 @@ use Rattle.uslp_record.proofs.counting.counted.Statement.{statement}
 use Rattle.uslp_record.proofs.counting.counted.Tie as tie
 
 add-next : tie.Need-add-next
-add-next c = omega (arith, full-not (c .before .before .before .before .args .totals) (c .before .before .before .before .pre .0))
+add-next c =
+    let c4 = c .before .before .before .before in
+    omega (arith, full-not (c4 .args .totals) (c4 .pre .0))
 
 add-next-2 : tie.Need-add-next-2
-add-next-2 c = let s = c .before .before .before .before .before in omega (arith, gap-fits (s .args .arrival) (s .args .count) _ (s .args .totals) (c .before .before .before .arrival .given .1) (s .pre .0) (s .pre .1))
+add-next-2 c =
+    let c3 = c .before .before .before in
+    let c5 = c3 .before .before in
+    let s = c5 in
+    omega (
+      arith,
+      gap-fits (s .args .arrival) (s .args .count) _ (s .args .totals) (c3 .arrival .given .1) (s .pre .0)
+          (s .pre .1),
+    )
 
 add-next-3 : tie.Need-add-next-3
 add-next-3 c = omega (arith, full-not (c .before .before .before .args .totals) (c .before .before .before .pre .0))
@@ -21,7 +31,11 @@ add-next-4 : tie.Need-add-next-4
 add-next-4 c = omega (arith, full-not (c .before .before .before .args .totals) (c .before .before .before .pre .0))
 
 returns : tie.Need-returns
-returns c = let a = c .before .before .before .before .before .args in sym (ap (λ (x : Arrival). totalsAfter x (a .count) (a .totals)) (c .before .before .before .arrival .given .1))
+returns c =
+    let c3 = c .before .before .before in
+    let c5 = c3 .before .before in
+    let a = c5 .args in
+    sym (ap (λ (x : Arrival). totalsAfter x (a .count) (a .totals)) (c3 .arrival .given .1))
 
 returns-2 : tie.Need-returns-2
 returns-2 c = let a = c .before .before .before .args in sym (ap (λ (x : Arrival). totalsAfter x (a .count) (a .totals)) (c .before .enum-told .given .1))

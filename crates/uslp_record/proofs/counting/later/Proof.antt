@@ -13,7 +13,8 @@ counted-requires : tie.Need-counted-requires
 counted-requires c κs = (sym (c .before .full .ensures) ∙ c .if1 .left, c .before .before .pre)
 
 returns-2 : tie.Need-returns-2
-returns-2 c = let a = c .before .before .before .before .args in later-done (a .arrival) (totalsAfter (a .arrival) (a .count) (a .totals)) _ _ (c .before .counted .ensures) (c .full2 .ensures)
+returns-2 c = let a = c .before .before .before .before .args in
+    later-done (a .arrival) (totalsAfter (a .arrival) (a .count) (a .totals)) _ _ (c .before .counted .ensures) (c .full2 .ensures)
 
 pub later-spec : {M : Type 1} → statement M
 later-spec = tie.close (tie.spec (λ c κs. search needs) returns counted-requires (λ c κs. search needs) returns-2)

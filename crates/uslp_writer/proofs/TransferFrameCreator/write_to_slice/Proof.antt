@@ -11,7 +11,8 @@ use Rattle.uslp_writer.proofs.TransferFrameCreator.write_to_slice.Tie a
 
 -- what reserving answered, and left
 made : (d : tie.After-new) {x : ReservedAnswer} → d .new .result ≡ x
-    → let a = d .before .before .before .before in reserving (a .args .self) (length (a .args .«data» .now)) (a .args .buf .now) ≡ leaving (paperReserved x) (d .new .last .1 .1 .0)
+    → let a = d .before .before .before .before in
+    reserving (a .args .self) (length (a .args .«data» .now)) (a .args .buf .now) ≡ leaving (paperReserved x) (d .new .last .1 .1 .0)
 made d e = sym (d .new .ensures) ∙ ap (λ (x : ReservedAnswer). leaving (paperReserved x) (d .new .last .1 .1 .0)) e
 
 returns : tie.Need-returns

@@ -29,10 +29,13 @@ returns c =
 
 returns-2 : tie.Need-returns-2
 returns-2 c =
-    let d = c .before .before .before .before .before .before .before .before in
+    let c3 = c .before .before .before in
+    let c6 = c3 .before .before .before in
+    let c8 = c6 .before .before in
+    let d = c8 in
     let a = d .before .before .before .args in
-    filling-put (a .self) (a .buf .now) (a .«data» .now) (given d (c .before .before .before .before .before .before .enum-told .given .1))
-    (c .lesser .ensures) (c .before .before .before .copy-octets .ensures)
+    filling-put (a .self) (a .buf .now) (a .«data» .now) (given d (c6 .enum-told .given .1))
+    (c .lesser .ensures) (c3 .copy-octets .ensures)
 
 pub fill-spec : {M : Type 1} → statement M
 fill-spec =

@@ -11,7 +11,8 @@ use Rattle.uslp_writer.proofs.reserved.completed_header.Statement.{stat
 use Rattle.uslp_writer.proofs.reserved.completed_header.Tie as tie
 
 -- the answer of setting the length
-set : (d : tie.After-with-frame-len) → paperHeader (d .with-frame-len .result) ≡ done (completed (d .before .before .args .frame) (d .before .before .args .total))
+set : (d : tie.After-with-frame-len)
+    → paperHeader (d .with-frame-len .result) ≡ done (completed (d .before .before .args .frame) (d .before .before .args .total))
 set d =
     let a = d .before .before in
     d .with-frame-len .ensures

@@ -27,37 +27,50 @@ returns-2 c =
 
 returns-3 : tie.Need-returns-3
 returns-3 c =
-    let a = c .before .before .before .before .before in
-    sym (finish-claims (a .args .frame) (a .args .found) (c .before .before .before .before .if1 .left) (omega (arith, c .if3 .taken)))
+    let c4 = c .before .before .before .before in
+    let c5 = c4 .before in
+    let a = c5 in
+    sym (finish-claims (a .args .frame) (a .args .found) (c4 .if1 .left) (omega (arith, c .if3 .taken)))
 
 add-needed-2 : tie.Need-add-needed-2
 add-needed-2 c =
-    let two = cond-le (c .before .before .before .before .before .before .before .args .frame .«has_fecf») 2 0 (omega arith) in
-    omega (arith, c .fecf-len .ensures, two, c .before .before .if3 .left, c .before .before .before .before .if2 .left)
+    let c4 = c .before .before .before .before in
+    let c7 = c4 .before .before .before in
+    let two = cond-le (c7 .args .frame .«has_fecf») 2 0 (omega arith) in
+    omega (arith, c .fecf-len .ensures, two, c .before .before .if3 .left, c4 .if2 .left)
 
 returns-4 : tie.Need-returns-4
 returns-4 c =
-    let a = c .before .before .before .before .before .before .before .before in
-    sym (finish-claims (a .args .frame) (a .args .found) (c .before .before .before .before .before .before .before .if1 .left) (omega (arith, c .if4 .taken, c .before .fecf-len .ensures)))
+    let c7 = c .before .before .before .before .before .before .before in
+    let c8 = c7 .before in
+    let a = c8 in
+    sym (finish-claims (a .args .frame) (a .args .found) (c7 .if1 .left)
+    (omega (arith, c .if4 .taken, c .before .fecf-len .ensures)))
 
 returns-5 : tie.Need-returns-5
 returns-5 c =
-    let a = c .before .before .before .before .before .before .before .before .before in
+    let c8 = c .before .before .before .before .before .before .before .before in
+    let c9 = c8 .before in
+    let a = c9 in
     rw (c .before .before .fecf-len .ensures)
     (sym
-    (finish-small (a .args .frame) (a .args .found) (c .before .before .before .before .before .before .before .before .if1 .left) (claims (c .before))
+    (finish-small (a .args .frame) (a .args .found) (c8 .if1 .left) (claims (c .before))
     (omega (arith, c .if5 .taken, c .before .before .fecf-len .ensures))))
 
 returns-6 : tie.Need-returns-6
 returns-6 c =
-    let a = c .before .before .before .before .before .before .before .before .before .before in
-    let short = c .before .before .before .before .before .before .before .before .before .if1 .left in
+    let c9 = c .before .before .before .before .before .before .before .before .before in
+    let c10 = c9 .before in
+    let a = c10 in
+    let short = c9 .if1 .left in
     sym (finish-short (a .args .frame) (a .args .found) short (claims (c .before .before)) (within (c .before)) (c .if6 .taken))
 
 returns-7 : tie.Need-returns-7
 returns-7 c =
-    let a = c .before .before .before .before .before .before .before .before .before .before in
-    let short = c .before .before .before .before .before .before .before .before .before .if1 .left in
+    let c9 = c .before .before .before .before .before .before .before .before .before in
+    let c10 = c9 .before in
+    let a = c10 in
+    let short = c9 .if1 .left in
     sym (finish-done (a .args .frame) (a .args .found) short (claims (c .before .before)) (within (c .before)) (c .if6 .left))
 
 pub finish-len-spec : {M : Type 1} → statement M

@@ -6,8 +6,11 @@ use Rattle.uslp_writer.proofs.reserved.put_fecf.Tie as tie
 
 returns : tie.Need-returns
 returns c =
-    let a = c .before .before .before .before .before .before .before .before in
-    fecf-put (a .args .total) _ (a .args .buf .now) _ (a .pre .0) (a .pre .1) (c .before .before .before .before .checksum .ensures) (c .before .before .put-number .ensures)
+    let c4 = c .before .before .before .before in
+    let c8 = c4 .before .before .before .before in
+    let a = c8 in
+    fecf-put (a .args .total) _ (a .args .buf .now) _ (a .pre .0) (a .pre .1) (c4 .checksum .ensures)
+    (c .before .before .put-number .ensures)
 
 pub put-fecf-spec : {M : Type 1} → statement M
 put-fecf-spec =

@@ -32,7 +32,9 @@ part-write-to-slice-start c = within (c .before .before)
 
 returns : tie.Need-returns
 returns c =
-    let d = c .before .before .before .before .before .before .before in
+    let c3 = c .before .before .before in
+    let c7 = c3 .before .before .before .before in
+    let d = c7 in
     let a = d .before .before .before .before .before .before in
     let k = a .args .frame in
     let made = d .before .before .before .before .completed-header .ensures in
@@ -41,7 +43,7 @@ returns c =
       start,
       rw start
           (both-put k (a .args .total) (a .args .buf .now) (a .pre .0) (a .pre .1) (a .pre .3) made (d .write-to-slice .ensures)
-          _ (d .before .before .len-header .ensures) (c .before .before .before .write-to-slice2 .ensures)),
+          _ (d .before .before .len-header .ensures) (c3 .write-to-slice2 .ensures)),
     )
 
 pub put-headers-spec : {M : Type 1} → statement M

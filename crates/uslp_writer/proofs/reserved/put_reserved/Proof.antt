@@ -18,14 +18,18 @@ add-end c =
 
 put-ocf-requires : tie.Need-put-ocf-requires
 put-ocf-requires c κs =
-    let a = c .before .before .before .before .before .before in
-    let p = c .before .before .before .put-headers .ensures in
+    let c3 = c .before .before .before in
+    let c6 = c3 .before .before .before in
+    let a = c6 in
+    let p = c3 .put-headers .ensures in
     ocf-in (a .args .frame) (a .args .data-size) _ (a .args .buf .now) (a .pre .0) (a .pre .1) _ _ (p .0) (p .1)
 
 returns : tie.Need-returns
 returns c =
-    let a = c .before .before .before .before .before .before .before .before .before in
-    let p = c .before .before .before .before .before .before .put-headers .ensures in
+    let c6 = c .before .before .before .before .before .before in
+    let c9 = c6 .before .before .before in
+    let a = c9 in
+    let p = c6 .put-headers .ensures in
     reserved-put (a .args .frame) (a .args .data-size) _ (a .args .buf .now) (a .pre .0) (a .pre .1) _ _ (p .0) (p .1) _ (c .before .before .put-ocf .ensures)
 
 pub put-reserved-spec : {M : Type 1} → statement M

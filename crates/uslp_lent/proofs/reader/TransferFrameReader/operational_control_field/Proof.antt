@@ -12,4 +12,5 @@ pub operational-control-field-spec : {M : Type 1} → statement M
 unfolding code.routine
 operational-control-field-spec 𝓤 H 𝓜 𝓖 𝓡 =
     by-parts reader ocf-answer (Shows ocf-answer (λ κs. paperOcf) (λ x. x .«operational_control_field»))
-    𝓤 H 𝓜 𝓖 𝓡 code.env key.name callee.name (code.unfolded 𝓤 H 𝓜 𝓡) callee.routine code.calls-uslp-lent·parts·operational-control-field (callee-thm.met 𝓤 H 𝓜 𝓖 𝓡)
+    𝓤 H 𝓜 𝓖 𝓡 code.env key.name callee.name (code.unfolded 𝓤 H 𝓜 𝓡) callee.routine code.calls-uslp-lent·parts·operational-control-field
+    (callee-thm.met 𝓤 H 𝓜 𝓖 𝓡)
