@@ -1,15 +1,25 @@
 -- The promises of `uslp_hearing` settle each call. `handed_on` hands back a part of the lent octets: what it shows is settled.
 use mathlib.Core.Path.{_≡_, refl, sym, ap, _∙_}
+use mathlib.Core.Bool.{false}
 use mathlib.Core.List.{List, [], _∷_}
 use Prim.Native.Nat.{ℕ}
 use native.Mathlib.Omega.{arith}
 use denote.Ref.{RefT, now}
 use Rattle.uslp_kinds.proofs.Back.{back, one-to-one}
+use Rattle.uslp_kinds.proofs.Outcomes.{done-one}
+use Rattle.uslp_primary_header.specs.Header.{headerReading}
+use Rattle.uslp_data_field_header.specs.Field.{fieldReading}
+use Rattle.uslp_reader.specs.Reader.{frameReading}
+use Rattle.uslp_record.specs.Slots.{find, stateAt, put, emptyRecord}
+use Rattle.uslp_record.specs.Judging.{judging}
 use Rattle.uslp_record.specs.declared.Channel.{Channel}
+use Rattle.uslp_record.specs.declared.ChannelRecord.{ChannelRecord}
+use Rattle.uslp_record.specs.declared.SlotState.{SlotState}
+use Rattle.uslp_record.specs.declared.SlotState.the-variants.{Closed, Opened, Heard}
 use Rattle.uslp_record.specs.declared.Change.{Change}
 use Rattle.uslp_record.proofs.Back.{keeping-one}
 use Rattle.uslp_hearing.specs.Hearing.{paperHear, paperJudge}
-use Rattle.uslp_hearing.specs.declared.FrameArrival.the-variants.{New, Repeat}
+use Rattle.uslp_hearing.specs.declared.FrameArrival.the-variants.{New, Repeat, Late}
 use Rattle.uslp_hearing.specs.declared.FrameArrival.{FrameArrival}
 use Rattle.uslp_hearing.specs.declared.HearAnswer.the-variants.{Done, Refused}
 use Rattle.uslp_hearing.specs.declared.JudgeAnswer.the-variants as judge-answer
@@ -31,6 +41,23 @@ fn-handed-on = function hearing.handed_on.Kinds.ps hearing.handed_on.Kinds.r hea
 
 abbrev fn-channel-of : Function
 fn-channel-of = function hearing.channel_of.Kinds.ps hearing.channel_of.Kinds.r hearing.channel_of.Reads.Pre hearing.channel_of.Reads.Learnt
+
+-- a channel open in the first slot, and not heard yet; and how many frames the first slot has handed on
+abbrev opened : ChannelRecord
+opened = put emptyRecord 0 (Opened (record { «spacecraft_id» = 0x1234; «vc_id» = 5 }) 1)
+
+abbrev handedIn : SlotState → ℕ
+handedIn Closed = 0
+handedIn (Opened k w) = 0
+handedIn (Heard k w t) = t .«handed_on»
+
+abbrev gapOf : FrameArrival → ℕ
+gapOf (New gap x) = gap
+gapOf Repeat = 0
+gapOf Late = 0
+
+abbrev handedFirst : ChannelRecord → ℕ
+handedFirst r = handedIn (stateAt r 0)
 
 pub hear-settles : Settles fn-hear
 hear-settles = record {
@@ -54,6 +81,24 @@ judge-settles = record {
       {x = x .0} {y = y .0} (s ∙ sym t))
       refl;
 }
+
+-- hears a channel that is not open; says NEW and counts nothing
+pub hear-lax : Allows fn-hear ([], tt) (emptyRecord, (at octetsF, (false, tt))) (record { answer = Done Repeat; next = emptyRecord }, (tt, (tt, (tt, tt)))) → ⊥
+unfolding frameReading headerReading fieldReading judging find
+hear-lax e = let z : _≡_ {A = ℕ} 0 1 = cc in omega arith
+
+pub hear-still : Allows fn-hear ([], tt) (opened, (at octetsF, (false, tt))) (record { answer = Done (New 0 readF); next = opened }, (tt, (tt, (tt, tt)))) → ⊥
+unfolding frameReading headerReading fieldReading judging find
+hear-still e = let z : _≡_ {A = ℕ} 0 1 = ap (λ (r : ChannelRecord). handedFirst r) (keeping-one e .1) in omega arith
+
+-- judges a channel that is not open; hands a gap on that is not there
+pub judge-lax : (c : Change) → Allows fn-judge ([], tt) (emptyRecord, (at octetsF, (false, tt))) (judge-answer.Done Repeat c, (tt, (tt, (tt, tt)))) → ⊥
+unfolding frameReading headerReading fieldReading judging find
+judge-lax c e = let z : _≡_ {A = ℕ} 0 1 = cc in omega arith
+
+pub judge-gap : (c : Change) → Allows fn-judge ([], tt) (opened, (at octetsF, (false, tt))) (judge-answer.Done (New 1 readF) c, (tt, (tt, (tt, tt)))) → ⊥
+unfolding frameReading headerReading fieldReading judging find
+judge-gap c e = let z : _≡_ {A = ℕ} 1 0 = ap (λ (x : FrameArrival × Change). gapOf (x .0)) (done-one e) in omega arith
 
 pub handed-on-shows : Shows fn-handed-on (λ κs a r. r)
 handed-on-shows = record { total = λ κs a. tt; same = λ κs a x y s t. (s .lies ∙ sym (t .lies), s .shows ∙ sym (t .shows)) }

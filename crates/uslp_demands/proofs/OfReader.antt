@@ -5,6 +5,7 @@ use mathlib.Core.Bool.{false}
 use mathlib.Core.List.{List, [], _∷_}
 use Prim.Native.Nat.{ℕ}
 use native.Mathlib.Omega.{arith}
+use lib.ListN.{length}
 use denote.Ref.{RefT, now}
 use Rattle.uslp_kinds.proofs.Back.{back, one-to-one}
 use Rattle.uslp_kinds.specs.declared.SourceOrDestField.the-variants.{Source, Dest}
@@ -199,6 +200,13 @@ operational-control-field-zero e = let z : _≡_ {A = ℕ} 0 1 = cc in omega ari
 
 pub raw-frame-settles : Settles fn-raw-frame
 raw-frame-settles = record { total = λ κs a. tt; same = λ κs a x y s t. alike (s ∙ sym t) refl }
+
+-- shows nothing; lies elsewhere
+pub raw-frame-none : (r : RefT (List ℕ)) → now r ≡ [] → Allows fn-raw-frame ([], tt) (readF, (at octetsF, tt)) (r, (tt, (tt, tt))) → ⊥
+raw-frame-none r h e = let z : _≡_ {A = ℕ} 0 11 = ap length (sym h ∙ ap (λ (q : RefT (List ℕ)). now q) e) in omega arith
+
+pub raw-frame-elsewhere : (r : RefT (List ℕ)) → r .ptr ≡ (1, 0) → Allows fn-raw-frame ([], tt) (readF, (at octetsF, tt)) (r, (tt, (tt, tt))) → ⊥
+raw-frame-elsewhere r h e = let z : _≡_ {A = ℕ} 1 0 = ap (λ (p : ℕ × ℕ). p .0) (sym h ∙ ap (λ (q : RefT (List ℕ)). q .ptr) e) in omega arith
 
 pub data-shows : Shows fn-data (λ κs a r. r)
 data-shows = record { total = λ κs a. tt; same = λ κs a x y s t. (s .lies ∙ sym (t .lies), s .shows ∙ sym (t .shows)) }

@@ -63,3 +63,12 @@ put-number-settles = record {
   same = λ κs a x y s t. alike (s .ends ∙ sym (t .ends))
       (λ i. (tt, ((s .stands ∙ sym (t .stands)) i, (tt, tt))));
 }
+
+-- tells nothing; tells a zero in front
+pub put-number-idle : Allows fn-put-number ([], tt) (7, (at (0 ∷ 0 ∷ []), (0, tt))) (0, (tt, (0 ∷ 0 ∷ [], (tt, tt)))) → ⊥
+unfolding widthIn
+put-number-idle e = let z : _≡_ {A = ℕ} 0 1 = e .ends in omega arith
+
+pub put-number-zero : Allows fn-put-number ([], tt) (7, (at (0 ∷ 0 ∷ []), (0, tt))) (2, (tt, (48 ∷ 55 ∷ [], (tt, tt)))) → ⊥
+unfolding widthIn
+put-number-zero e = let z : _≡_ {A = ℕ} 2 1 = e .ends in omega arith
