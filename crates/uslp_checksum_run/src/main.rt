@@ -1,6 +1,10 @@
-// The published check value, from both forms.
+// The published check value, from each form.
 fn main() {
-    line(b"table ", uslp_checksum::checksum(b"123456789"));
+    line(b"words ", uslp_checksum::checksum(b"123456789"));
+    line(
+        b"table ",
+        uslp_checksum::update_by_table(0xFFFF, b"123456789"),
+    );
     line(b"bitwise ", uslp_checksum::checksum_bitwise(b"123456789"));
 }
 
