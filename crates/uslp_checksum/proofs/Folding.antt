@@ -1,21 +1,20 @@
 -- What the functions on words do to the register that the words stand for.
-use mathlib.Core.Path.{_≡_, refl, sym, ap, ap₂, _∙_}
+use mathlib.Core.Path.{_≡_, refl, sym, ap, ap₂, _∙_, subst}
 use mathlib.Core.Bool.{Bool, true, false}
 use mathlib.Core.List.{List, [], _∷_}
 use Prim.Native.Nat.{ℕ, zero, suc, _+_, _-_, _*_, _/_, _%_, _^_, _≤_, _<_}
 use native.Mathlib.Nat.{add-comm, zero-add, mod-lt, mod-eq-of-lt, mul-one, div-eq-of-lt, lt-of-le-of-lt}
 use native.Mathlib.Omega.{arith}
 use lib.ListN.{length, take}
-use lib.Pow.{pow-pos, shl-shr, shr-shr, shr-le}
+use lib.Pow.{pow-pos, shl-lt, shl-shr, shr-lt, shr-shr, shr-le}
 use lib.Bits.{bitXor, xor-self, xor-comm, xor-zero-r, xor-lt, xor-shr}
 use Rattle.uslp_octets.specs.Octets.{word, AreOctets}
 use Rattle.uslp_octets.proofs.Laws.{pow-eight, word-lt}
 use Rattle.uslp_checksum.specs.Checksum.{bit, step, feed, lows, bits}
 use Rattle.uslp_checksum.specs.Words.{fed}
 use Rattle.uslp_checksum.proofs.Xor.{xor-assoc, xor-eq}
-use Rattle.uslp_checksum.proofs.Register.{step-xor, zsteps, zsteps-zero, feed-top}
-use Rattle.uslp_checksum.proofs.Message.{feed-lt, feed-octet, value-lows}
-use Rattle.uslp_checksum.proofs.Turns.{by-table}
+use Rattle.uslp_checksum.proofs.Register.{step-xor, zsteps, zsteps-xor, zsteps-zero, feed-top}
+use Rattle.uslp_checksum.proofs.Message.{feed-lt, value-lows}
 use Rattle.uslp_checksum.proofs.Powers.{Sums, sums-zero, xor-back, poly, twice, poly-sums, poly-moved, square, square-zero}
 use Rattle.uslp_checksum.proofs.Lows.{feed-sums, feed-split, lows-mod, up, up-sums, up-add, feed-lead, feed-shifted, feed-word, word-front}
 
@@ -195,12 +194,12 @@ word-law a b c d w h =
     ∙ sym (four-sums 0 b c d w (fed 0 a) 0 0 0 0) ∙ rw (xor-zero-r b, xor-zero-r c, xor-zero-r d, xor-zero-r w) refl
 
 -- the register stands on top of a first word
-seed : (r : ℕ) → r < 2 ^ 16 → fed 0 (r * 2 ^ 48) ≡ up 64 r
+top : (r : ℕ) → r < 2 ^ 16 → feed 0 (lows 16 r) ≡ up 16 r
 unfolding up
-seed r h =
-    feed-shifted 16 48 0 r
-    ∙ ap (up 48) (sixteen 0 r ∙ ap (zsteps 16) (mod-eq-of-lt h ∙ sym (xor-zero-r r)) ∙ sym (sixteen r 0))
-    ∙ up-add 48 16 r
+top r h = sixteen 0 r ∙ ap (zsteps 16) (mod-eq-of-lt h ∙ sym (xor-zero-r r)) ∙ sym (sixteen r 0)
+
+seed : (r : ℕ) → r < 2 ^ 16 → fed 0 (r * 2 ^ 48) ≡ up 64 r
+seed r h = feed-shifted 16 48 0 r ∙ ap (up 48) (top r h) ∙ up-add 48 16 r
 
 opened : (r s t v w : ℕ) → r < 2 ^ 16 → s + t ≡ 64 → v < 2 ^ s
     → fed (fed 0 (bitXor v (r * 2 ^ 48 % 2 ^ 64 / 2 ^ t))) (bitXor w (r * 2 ^ 48 % 2 ^ 64 * 2 ^ s % 2 ^ 64)) ≡ fed (feed r (lows s v)) w
@@ -219,16 +218,16 @@ opened r s t v w h e l =
 
 -- h octets that fill no word, and a word
 module _ (m : List ℕ) (oct : AreOctets m) (r h : ℕ) where
-  first-law : h < 8 → (a : ℕ) → bitXor (word 0 8 m) a / 2 ^ (63 - 8 * h) / 2 ≡ bitXor (word 0 h m) (a / 2 ^ (64 - 8 * h))
+  first-law : h < 8 → (a : ℕ) → bitXor (word 0 8 m) a / 2 ^ (32 - 4 * h) / 2 ^ (32 - 4 * h) ≡ bitXor (word 0 h m) (a / 2 ^ (64 - 8 * h))
   first-law l a =
-      let one : 63 - 8 * h + 1 ≡ 64 - 8 * h = omega arith in
+      let both : 32 - 4 * h + (32 - 4 * h) ≡ 64 - 8 * h = omega arith in
       let octets : 64 - 8 * h ≡ 8 * (8 - h) = omega arith in
       let eight : 8 ≡ h + (8 - h) = omega arith in
-      shr-shr (bitXor (word 0 8 m) a) (63 - 8 * h) 1 ∙ ap (λ (k : ℕ). bitXor (word 0 8 m) a / 2 ^ k) one ∙ xor-shr (word 0 8 m) a (64 - 8 * h)
+      shr-shr (bitXor (word 0 8 m) a) (32 - 4 * h) (32 - 4 * h) ∙ ap (λ (k : ℕ). bitXor (word 0 8 m) a / 2 ^ k) both ∙ xor-shr (word 0 8 m) a (64 - 8 * h)
       ∙ ap (λ (x : ℕ). bitXor x (a / 2 ^ (64 - 8 * h))) (ap₂ (λ (i k : ℕ). word 0 i m / 2 ^ k) eight octets ∙ word-front m oct 0 h (8 - h))
 
   pub begin-law : r < 2 ^ 16 → h < 8 → h + 8 ≤ length m
-      → four 0 0 0 (bitXor (word 0 8 m) (r * 2 ^ 48 % 2 ^ 64) / 2 ^ (63 - 8 * h) / 2) (bitXor (word h 8 m) (r * 2 ^ 48 % 2 ^ 64 * 2 ^ (8 * h) % 2 ^ 64))
+      → four 0 0 0 (bitXor (word 0 8 m) (r * 2 ^ 48 % 2 ^ 64) / 2 ^ (32 - 4 * h) / 2 ^ (32 - 4 * h)) (bitXor (word h 8 m) (r * 2 ^ 48 % 2 ^ 64 * 2 ^ (8 * h) % 2 ^ 64))
       ≡ feed r (bits (take (h + 8) m))
   unfolding up bits feed
   begin-law hr l n =
@@ -239,8 +238,35 @@ module _ (m : List ℕ) (oct : AreOctets m) (r h : ℕ) where
       ∙ ap (λ (x : ℕ). fed x (word h 8 m)) (sym (feed-word m oct 0 r h (omega arith)) ∙ ap (λ (i : ℕ). feed r (bits (take i m))) (zero-add h))
       ∙ sym (feed-word m oct h r 8 n)
 
-pub octet-law : (r o : ℕ) → r < 2 ^ 16 → o < 256 → bitXor (r * 256 % 2 ^ 16) (fed 0 (bitXor (r / 256) o)) ≡ feed r (lows 8 o)
-octet-law r o h l =
-    let small : bitXor (r / 256) o < 256 = xor-lt 8 (r / 256) o (omega arith) l in
-    ap (bitXor (r * 256 % 2 ^ 16)) (feed-lead 56 8 (bitXor (r / 256) o) small ∙ feed-octet 0 (bitXor (r / 256) o) small)
-    ∙ sym (by-table r o) ∙ sym (feed-octet r o l)
+-- what leaves the register at the top, in s places, and what is left of it below
+parts : (r s : ℕ) → r < 2 ^ 16 → s ≤ 64 → bitXor (fed 0 (r * 2 ^ s / 2 ^ 16)) (r * 2 ^ s % 2 ^ 16) ≡ up s r
+unfolding up
+parts r s h l =
+    xor-eq x (up s r)
+    (zsteps-zero 16 (bitXor x (up s r)) (xor-lt 16 x (up s r) (xor-lt 16 (fed 0 n) (r * 2 ^ s % 2 ^ 16) (feed-lt (lows 64 n) 0 (omega arith)) (mod-lt (r * 2 ^ s) (pow-pos 16))) (feed-lt (lows s 0) r h))
+    (zsteps-xor 16 x (up s r) ∙ ap (λ (y : ℕ). bitXor y (zsteps 16 (up s r))) same ∙ xor-self (zsteps 16 (up s r))))
+  where
+    n : ℕ
+    n = r * 2 ^ s / 2 ^ 16
+
+    x : ℕ
+    x = bitXor (fed 0 n) (r * 2 ^ s % 2 ^ 16)
+
+    whole : 64 ≡ 64 - s + s
+    whole = omega arith
+
+    same : zsteps 16 x ≡ zsteps 16 (up s r)
+    same =
+        ap (λ (y : ℕ). zsteps 16 (bitXor y (r * 2 ^ s % 2 ^ 16))) (ap (λ (k : ℕ). feed 0 (lows k n)) whole ∙ feed-lead (64 - s) s n (shr-lt s 16 (subst (λ (k : ℕ). r * 2 ^ s < 2 ^ k) (add-comm 16 s) (shl-lt 16 s h))))
+        ∙ sym (sixteen (feed 0 (lows s n)) (r * 2 ^ s)) ∙ sym (feed-split s 16 0 (r * 2 ^ s)) ∙ ap (λ (k : ℕ). feed 0 (lows k (r * 2 ^ s))) (add-comm s 16)
+        ∙ feed-shifted 16 s 0 r ∙ ap (up s) (top r h) ∙ up-add s 16 r ∙ ap (λ (k : ℕ). up k r) (add-comm s 16) ∙ sym (up-add 16 s r)
+        ∙ sixteen (up s r) 0 ∙ ap (zsteps 16) (xor-zero-r (up s r))
+
+pub take-law : (r s n : ℕ) → r < 2 ^ 16 → s ≤ 64 → n < 2 ^ s → bitXor (fed 0 (bitXor n (r * 2 ^ s / 2 ^ 16))) (r * 2 ^ s % 2 ^ 16) ≡ feed r (lows s n)
+unfolding up
+take-law r s n h l k =
+    let whole : 64 ≡ 64 - s + s = omega arith in
+    ap (λ (x : ℕ). bitXor x (r * 2 ^ s % 2 ^ 16)) (feed-sums 64 0 0 n (r * 2 ^ s / 2 ^ 16))
+    ∙ xor-assoc (fed 0 n) (fed 0 (r * 2 ^ s / 2 ^ 16)) (r * 2 ^ s % 2 ^ 16)
+    ∙ ap₂ bitXor (ap (λ (j : ℕ). feed 0 (lows j n)) whole ∙ feed-lead (64 - s) s n k) (parts r s h l)
+    ∙ sym (feed-sums s 0 r n 0) ∙ ap (λ (x : ℕ). feed r (lows s x)) (xor-zero-r n)

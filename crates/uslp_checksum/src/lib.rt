@@ -7,7 +7,7 @@ mod words;
 
 use entries::TABLE;
 use words::begin;
-use words::by_octets;
+use words::by_halves;
 use words::join;
 use words::narrow;
 use words::take_word;
@@ -18,7 +18,7 @@ pub fn update(register: u16, message: &[u8]) -> u16
     ensures { λ r. ⌜ r ≡ feed register (bits (now (message .entry))) ⌝ }
 {
     if message.len() < 8 {
-        return by_octets(register, message);
+        return by_halves(register, message);
     }
     let head = message.len() % 8;
     let mut wide = begin(register, message, head);

@@ -6,7 +6,7 @@ ghost use lib.Bits.{bitXor};
 ghost use Rattle.uslp_octets.specs.Octets.{word};
 ghost use Rattle.uslp_checksum.specs.Checksum.{feed, lows, bits};
 ghost use Rattle.uslp_checksum.specs.Words.{fed, standsFor};
-use uslp_octets::be_u32;
+use uslp_octets::number_in;
 
 // Four words that stand for a register, the first on top.
 pub struct Wide {
@@ -21,15 +21,15 @@ pub fn begin(register: u16, message: &[u8], head: usize) -> Wide
     requires { ⌜ (head < 8) × (head + 8 ≤ length (now message)) ⌝ }
     ensures { λ r. ⌜ standsFor r ≡ feed register (bits (take (head + 8) (now (message .entry)))) ⌝ }
 {
-    let places = 8 * head;
+    let half = 4 * head;
     let seed = (register as u64) << 48;
     let first = word_at(message, 0) ^ seed;
-    // by 64 - places in all: one shift by 64 there is none
+    // by 64 less 8 * head places, in two steps: it may be 64, and no shift is
     Wide {
         a: 0,
         b: 0,
-        c: (first >> (63 - places)) >> 1,
-        d: word_at(message, head) ^ (seed << places),
+        c: (first >> (32 - half)) >> (32 - half),
+        d: word_at(message, head) ^ (seed << (8 * head)),
     }
 }
 
@@ -73,42 +73,37 @@ pub fn narrow(word: u64) -> u16
     (((q << 12) ^ (q << 5) ^ q) % 0x10000) as u16
 }
 
-// The eight octets from place i on, as one number.
+// The eight octets from place i on, as one number: in two halves, since the compiler makes one load of these and not of eight octets in a row.
 pub fn word_at(message: &[u8], i: usize) -> u64
     requires { ⌜ i + 8 ≤ length (now message) ⌝ }
     ensures { λ r. ⌜ r ≡ word i 8 (now (message .entry)) ⌝ }
 {
-    let high = be_u32(
-        message[i + 0],
-        message[i + 1],
-        message[i + 2],
-        message[i + 3],
-    );
-    let low = be_u32(
-        message[i + 4],
-        message[i + 5],
-        message[i + 6],
-        message[i + 7],
-    );
-    high as u64 * 0x1_0000_0000 + low as u64
+    number_in(message, i, 4) * 0x1_0000_0000 + number_in(message, i + 4, 4)
 }
 
-// An octet at a time, for messages below eight octets.
-pub fn by_octets(register: u16, message: &[u8]) -> u16
+// Below eight octets: four at once, then two, then one, as many as there are.
+pub fn by_halves(register: u16, message: &[u8]) -> u16
+    requires { ⌜ length (now message) < 8 ⌝ }
     ensures { λ r. ⌜ r ≡ feed register (bits (now (message .entry))) ⌝ }
 {
     let mut current = register;
     let mut i: usize = 0;
-    while i < message.len() {
-        current = take_octet(current, message[i]);
-        i += 1;
+    let mut k: usize = 4;
+    while 0 < k {
+        if k <= message.len() - i {
+            current = take(current, number_in(message, i, k), 8 * k);
+            i += k;
+        }
+        k = k / 2;
     }
     current
 }
 
-// The lower octet moves up; the upper one, with the message's added, is a word by itself.
-fn take_octet(register: u16, octet: u8) -> u16
-    ensures { λ r. ⌜ r ≡ feed register (lows 8 octet) ⌝ }
+// So many places of a number. What leaves the register at the top is added to the number; what is left below needs no remainder.
+fn take(register: u16, number: u64, places: usize) -> u16
+    requires { ⌜ (places ≤ 32) × (number < 2 ^ places) ⌝ }
+    ensures { λ r. ⌜ r ≡ feed register (lows places number) ⌝ }
 {
-    (register << 8) ^ narrow(((register >> 8) ^ octet as u16) as u64)
+    let moved = (register as u64) << places;
+    narrow(number ^ (moved >> 16)) ^ (moved % 0x10000) as u16
 }

@@ -20,11 +20,11 @@ Inv-loop register message head wide₀ i₀ wide i =
 abbrev μ-loop : tie.MeasureT-loop
 μ-loop register message head wide₀ i₀ wide i = length message - i
 
-by-octets-requires : tie.Need-by-octets-requires Inv-loop μ-loop
-by-octets-requires c κs = search needs
+by-halves-requires : tie.Need-by-halves-requires Inv-loop μ-loop
+by-halves-requires c κs = search needs
 
 returns : tie.Need-returns Inv-loop μ-loop
-returns c = c .by-octets .ensures
+returns c = c .by-halves .ensures
 
 begin-requires : tie.Need-begin-requires Inv-loop μ-loop
 begin-requires c κs = omega arith
@@ -88,7 +88,7 @@ update-spec =
     (tie.spec
     Inv-loop
     μ-loop
-    by-octets-requires
+    by-halves-requires
     returns
     begin-requires
     add-i
