@@ -7,6 +7,7 @@ pub mod OfField
 pub mod OfLayout
 pub mod OfFrame
 pub mod OfReader
+pub mod OfTiming
 pub mod OfRecord
 pub mod OfChannel
 pub mod CasesHold
