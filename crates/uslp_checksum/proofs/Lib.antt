@@ -5,3 +5,6 @@ pub mod Laws
 pub mod Turns
 pub mod Every
 pub mod Table
+pub mod Powers
+pub mod Lows
+pub mod Folding

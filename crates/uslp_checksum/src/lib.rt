@@ -1,13 +1,44 @@
-// The checksum of a message, CRC-16/IBM-3740, in two forms. Each is proved equal to the definition in specs/.
+// The checksum of a message, CRC-16/IBM-3740, in three forms: by words, by a table, bit by bit. Each is proved equal to the definition in specs/.
 ghost use mathlib.Core.Path.{_≡_};
 ghost use Rattle.uslp_checksum.specs.Checksum.{feed, lows, bits, checksumOf};
 
 mod entries;
+mod words;
 
 use entries::TABLE;
+use words::begin;
+use words::by_halves;
+use words::join;
+use words::narrow;
+use words::take_word;
+use words::word_at;
 
-// The register after a message, from any register, so that a message can come in parts: eight places at a time.
+// The register after a message, from any register, so that a message can come in parts. It goes by words of 64 bits, as specs/Words.antt explains.
 pub fn update(register: u16, message: &[u8]) -> u16
+    ensures { λ r. ⌜ r ≡ feed register (bits (now (message .entry))) ⌝ }
+{
+    if message.len() < 8 {
+        return by_halves(register, message);
+    }
+    let head = message.len() % 8;
+    let mut wide = begin(register, message, head);
+    let mut i: usize = head + 8;
+    while i < message.len() {
+        wide = take_word(wide, word_at(message, i));
+        i += 8;
+    }
+    narrow(join(join(join(wide.a, wide.b), wide.c), wide.d))
+}
+
+// The register after a message, from all ones.
+pub fn checksum(message: &[u8]) -> u16
+    ensures { λ r. ⌜ r ≡ checksumOf (now (message .entry)) ⌝ }
+{
+    update(0xFFFF, message)
+}
+
+// By a table, an octet at a time.
+pub fn update_by_table(register: u16, message: &[u8]) -> u16
     ensures { λ r. ⌜ r ≡ feed register (bits (now (message .entry))) ⌝ }
 {
     // copied here once: an index into the constant would copy all of it at each turn
@@ -22,14 +53,7 @@ pub fn update(register: u16, message: &[u8]) -> u16
     current
 }
 
-// The register after a message, from all ones.
-pub fn checksum(message: &[u8]) -> u16
-    ensures { λ r. ⌜ r ≡ checksumOf (now (message .entry)) ⌝ }
-{
-    update(0xFFFF, message)
-}
-
-// Bit by bit, with no table.
+// Bit by bit.
 pub fn checksum_bitwise(message: &[u8]) -> u16
     ensures { λ r. ⌜ r ≡ checksumOf (now (message .entry)) ⌝ }
 {

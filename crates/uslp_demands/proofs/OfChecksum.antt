@@ -62,3 +62,16 @@ update-deaf e = omega arith
 pub update-anew : Allows fn-update ([], tt) (0, (at [], tt)) (0xFFFF, (tt, (tt, tt))) → ⊥
 unfolding feed bits
 update-anew e = omega arith
+
+pub update-by-table-settles : Settles checksum.update_by_table.Kinds.ps checksum.update_by_table.Kinds.r checksum.update_by_table.Reads.Pre checksum.update_by_table.Reads.Learnt
+update-by-table-settles = record { total = λ κs a. tt; same = λ κs a x y s t. alike (s ∙ sym t) refl }
+
+-- keeps the register
+pub update-by-table-deaf : Allows checksum.update_by_table.Kinds.ps checksum.update_by_table.Kinds.r checksum.update_by_table.Reads.Learnt ([], tt) (0, (at (1 ∷ []), tt)) (0, (tt, (tt, tt))) → ⊥
+unfolding feed bits lows bit step
+update-by-table-deaf e = omega arith
+
+-- starts anew from all ones
+pub update-by-table-anew : Allows checksum.update_by_table.Kinds.ps checksum.update_by_table.Kinds.r checksum.update_by_table.Reads.Learnt ([], tt) (0, (at [], tt)) (0xFFFF, (tt, (tt, tt))) → ⊥
+unfolding feed bits
+update-by-table-anew e = omega arith

@@ -1,83 +1,86 @@
--- `uslp_checksum::update` meets its contract: after i turns the register was fed the first i octets.
-use mathlib.Core.Path.{_≡_, refl, sym, ap, _∙_}
+-- `uslp_checksum::update` meets its contract. After i octets of a message of eight or more, the words stand for the register that was fed the first i octets, and whole words are left.
+use mathlib.Core.Path.{_≡_, sym, ap, ap₂, _∙_}
 use mathlib.Core.List.{List}
-use Prim.Native.Nat.{ℕ, _<_, _≤_, _-_, _*_, _/_, _%_, _^_}
+use Prim.Native.Nat.{ℕ, _≤_, _-_, _%_}
 use native.Mathlib.Omega.{arith}
-use lib.ListN.{length, take, getD}
+use borrow.Author.Needs.{needs}
+use lib.ListN.{length, take}
 use lib.Seq.{take-all}
-use lib.Bits.{bitXor, xor-lt}
 use denote.Ref.{now}
-use Rattle.uslp_checksum.specs.Checksum.{bits, feed, lows, step, bit}
-use Rattle.uslp_checksum.proofs.Message.{feed-octet, feed-more, feed-lt}
-use Rattle.uslp_checksum.proofs.Turns.{by-table}
-use Rattle.uslp_checksum.proofs.Table.{Good, right, entry}
+use Rattle.uslp_checksum.specs.Checksum.{bits, feed}
+use Rattle.uslp_checksum.specs.Words.{fed, standsFor}
+use Rattle.uslp_checksum.proofs.Lows.{feed-word}
 use Rattle.uslp_checksum.proofs.update.Statement.{statement}
 use Rattle.uslp_checksum.proofs.update.Tie as tie
 
 abbrev Inv-loop : tie.InvT-loop
-Inv-loop register message table current₀ i₀ current i = (i ≤ length message) × (current ≡ feed register (bits (take i message))) × Good table
+Inv-loop register message head wide₀ i₀ wide i =
+    (i ≤ length message) × ((length message - i) % 8 ≡ 0) × (standsFor wide ≡ feed register (bits (take i message)))
 
 abbrev μ-loop : tie.MeasureT-loop
-μ-loop register message table current₀ i₀ current i = length message - i
+μ-loop register message head wide₀ i₀ wide i = length message - i
 
-loop-holds : tie.Need-loop-holds Inv-loop μ-loop
-unfolding bits feed Good right lows step bit
-loop-holds c = (omega arith, refl, tt)
+by-halves-requires : tie.Need-by-halves-requires Inv-loop μ-loop
+by-halves-requires c κs = search needs
 
-shared-slice-read-at : tie.Need-shared-slice-read-at Inv-loop μ-loop
-shared-slice-read-at c = omega arith
+returns : tie.Need-returns Inv-loop μ-loop
+returns c = c .by-halves .ensures
 
--- the octet that was read, and the place in the table that it leads to
-octet : (c : tie.After-shared-slice-known Inv-loop μ-loop) → getD (now (c .before .before .before .args .message)) (c .before .before .loop .i) 0 < 256
-octet c = omega (arith, c .shared-slice-known .given (c .before .before .loop .i))
-
-place : (c : tie.After-shared-slice-known Inv-loop μ-loop)
-    → bitXor (c .before .before .loop .current / 256) (getD (now (c .before .before .before .args .message)) (c .before .before .loop .i) 0) < 256
-place c =
-    let start = c .before .before .before in
-    let turn = c .before .before .loop in
-    let h = feed-lt (bits (take (turn .i) (now (start .args .message)))) (start .args .register) (omega arith) in
-    xor-lt 8 (turn .current / 256) (getD (now (start .args .message)) (turn .i) 0) (omega arith) (octet c)
-
-cast-at : tie.Need-cast-at Inv-loop μ-loop
-cast-at c = omega (arith, octet c)
-
-cast-at-2 : tie.Need-cast-at-2 Inv-loop μ-loop
-cast-at-2 c = omega (arith, place c)
-
-mul-current : tie.Need-mul-current Inv-loop μ-loop
-mul-current c = omega (arith, place c)
-
-array-read-current : tie.Need-array-read-current Inv-loop μ-loop
-array-read-current c = place c
+begin-requires : tie.Need-begin-requires Inv-loop μ-loop
+begin-requires c κs = omega arith
 
 add-i : tie.Need-add-i Inv-loop μ-loop
 add-i c = omega arith
+
+loop-holds : tie.Need-loop-holds Inv-loop μ-loop
+loop-holds c = (omega arith, omega arith, c .begin .ensures)
+
+word-at-requires : tie.Need-word-at-requires Inv-loop μ-loop
+word-at-requires c κs = omega arith
+
+take-word-requires : tie.Need-take-word-requires Inv-loop μ-loop
+take-word-requires c κs = search needs
+
+add-i-2 : tie.Need-add-i-2 Inv-loop μ-loop
+add-i-2 c = omega arith
 
 loop-less : tie.Need-loop-less Inv-loop μ-loop
 loop-less c = omega arith
 
 loop-again : tie.Need-loop-again Inv-loop μ-loop
 loop-again c =
-    let start = c .before .before .before in
-    let m = now (start .args .message) in
-    let turn = c .before .before .loop in
-    let o : ℕ = getD m (turn .i) 0 in
-    let k : ℕ = bitXor (turn .current / 256) o in (
+    let at = c .before .before .before in
+    let known = at .before .before .before in
+    let args = known .before .args in (
       omega arith,
-      ap (bitXor (turn .current * 256 % 2 ^ 16)) (entry _ (turn .inv .2) k (place c) (place c))
-          ∙ sym (by-table (turn .current) o)
-          ∙ sym (feed-octet (turn .current) o (octet c))
-          ∙ ap (λ (x : ℕ). feed x (lows 8 o)) (turn .inv .1)
-          ∙ sym (feed-more (start .args .register) m (turn .i) (omega arith)),
-      turn .inv .2,
+      omega arith,
+      c .take-word .ensures ∙ ap₂ fed (at .loop .inv .2) (c .before .word-at .ensures)
+          ∙ sym (feed-word (now (args .message)) (λ i. omega (arith, known .shared-slice-known .given i)) (at .loop .i) (args .register) 8 (omega arith)),
     )
 
-returns : tie.Need-returns Inv-loop μ-loop
-returns c =
-    let start = c .before .before in
-    c .before .loop .inv .1
-    ∙ ap (λ (x : List ℕ). feed (start .args .register) (bits x)) (take-all (c .before .loop .i) (now (start .args .message)) (omega arith))
+join-requires : tie.Need-join-requires Inv-loop μ-loop
+join-requires c κs = search needs
+
+join-requires-2 : tie.Need-join-requires-2 Inv-loop μ-loop
+join-requires-2 c κs = search needs
+
+join-requires-3 : tie.Need-join-requires-3 Inv-loop μ-loop
+join-requires-3 c κs = search needs
+
+narrow-requires : tie.Need-narrow-requires Inv-loop μ-loop
+narrow-requires c κs = search needs
+
+returns-2 : tie.Need-returns-2 Inv-loop μ-loop
+unfolding standsFor
+returns-2 c =
+    let joined = c .before .before in
+    let at = joined .before .before .before in
+    let args = at .before .before .before .before .args in
+    let wide = at .loop .wide in
+    c .narrow .ensures ∙ c .before .join3 .ensures
+    ∙ ap (λ (x : ℕ). fed x (wide .d)) (joined .join2 .ensures ∙ ap (λ (x : ℕ). fed x (wide .c)) (joined .before .join .ensures))
+    ∙ at .loop .inv .2
+    ∙ ap (λ (x : List ℕ). feed (args .register) (bits x)) (take-all (at .loop .i) (now (args .message)) (omega arith))
 
 pub update-spec : {M : Type 1} → statement M
 update-spec =
@@ -85,13 +88,18 @@ update-spec =
     (tie.spec
     Inv-loop
     μ-loop
-    loop-holds
-    shared-slice-read-at
-    cast-at
-    cast-at-2
-    mul-current
-    array-read-current
+    by-halves-requires
+    returns
+    begin-requires
     add-i
+    loop-holds
+    word-at-requires
+    take-word-requires
+    add-i-2
     loop-less
     loop-again
-    returns)
+    join-requires
+    join-requires-2
+    join-requires-3
+    narrow-requires
+    returns-2)

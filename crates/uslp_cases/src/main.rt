@@ -15,6 +15,12 @@ use uslp_reader::TransferFrame;
 use uslp_writer::TransferFrameCreator;
 
 fn main() {
+    sum(b"words ", uslp_checksum::checksum(b"123456789"));
+    sum(
+        b"table ",
+        uslp_checksum::update_by_table(0xFFFF, b"123456789"),
+    );
+    sum(b"bitwise ", uslp_checksum::checksum_bitwise(b"123456789"));
     let b1 = [
         0xB1u8,
         0x23,
@@ -131,5 +137,12 @@ fn count(what: &[u8], value: u64) {
             say(what, refusal.number());
         }
     }
+    io::write_all(1, b"\n");
+}
+
+// The name of a form, and its value as four hexadecimal digits.
+fn sum(form: &[u8], value: u16) {
+    io::write_all(1, form);
+    io::print_hex(1, value as u64, 4);
     io::write_all(1, b"\n");
 }
