@@ -1,87 +1,145 @@
-// The words that name commands.
-ghost use mathlib.Core.Path.{_≡_};
-ghost use Rattle.uslp_kinds.specs.Outcome.{firstOf};
-ghost use Rattle.uslp_bench.specs.Commands.{frameNames, channelNames, commandIn};
+// The commands: their words, and what each does.
+use crate::Bench;
+use crate::answers::say;
+use crate::answers::say_bad;
+use crate::channels::close;
+use crate::channels::hear;
+use crate::channels::open;
+use crate::channels::show;
+use crate::channels::total;
+use crate::places::HEX;
+use crate::places::Values;
+use crate::places::no_values;
+use crate::places::read;
+use crate::reading::crc;
+use crate::reading::dr;
+use crate::reading::fr;
+use crate::reading::hr;
+use crate::words::decode;
+use crate::words::next_word;
+use crate::words::part;
+use crate::words::part_mut;
+use crate::words::row_of;
+use crate::writing::fw;
+use crate::writing::hw;
+use uslp_record::ChannelRecord;
 
-// The commands on octets alone.
-pub enum OctetsCommand {
-    Crc,
-    Hr,
-    Dr,
+// The rows of `command_in`.
+const CRC: usize = 0;
+
+const HR: usize = 1;
+
+const DR: usize = 2;
+
+const FR: usize = 3;
+
+const HW: usize = 4;
+
+const FW: usize = 5;
+
+const RW: usize = 6;
+
+const OPEN: usize = 7;
+
+const CLOSE: usize = 8;
+
+const HEAR: usize = 9;
+
+const SHOW: usize = 10;
+
+const TOTAL: usize = 11;
+
+const NOTHING: usize = 12;
+
+// Answers the line that is held. One that is too long is no command, as an empty one.
+pub(crate) fn answer(line: &mut [u8], bench: Bench) -> Bench {
+    let mut values = no_values();
+    let command = command_in(part(line, 0, bench.held), &mut values);
+    let start = values[HEX] as usize;
+    let digits = next_word(line, start);
+    let channels = act(
+        command,
+        &values,
+        part_mut(line, start, digits.end),
+        bench.channels,
+    );
+    Bench {
+        channels,
+        held: 0,
+        ended: !say(b"\n"),
+    }
 }
 
-// The commands that leave the record alone. A frame is written as it is, or through a reserved data area.
-pub enum FrameCommand {
-    Octets(OctetsCommand),
-    Fr,
-    Hw,
-    Write(bool),
+// A row has a command's name and the places of its words.
+fn command_in(line: &[u8], values: &mut Values) -> usize {
+    let rows = b"crc hex
+hr hex
+dr hex
+fr fecf hex
+hw scid dest vc map total bypass pcc ocfflag width count buflen
+fw scid dest vc map bypass pcc ocfflag width count rule pid ptr ocf fecf buflen hex
+rw scid dest vc map bypass pcc ocfflag width count rule pid ptr ocf fecf buflen hex
+open scid vc width
+close scid vc
+hear fecf hex
+show scid vc
+total";
+    called(rows, line, values)
 }
 
-pub enum ChannelCommand {
-    Open,
-    Close,
-    Hear,
-    Show,
-    Total,
+// The row of the command that a line calls, or nothing where its words do not fit, which is told.
+fn called(rows: &[u8], line: &[u8], values: &mut Values) -> usize {
+    let word = next_word(line, 0);
+    let row = row_of(part(line, word.start, word.end), rows);
+    if row.number >= NOTHING {
+        say_bad(b"command");
+        return NOTHING;
+    }
+    if read(part(rows, row.start, row.end), line, word.end, values) {
+        return row.number;
+    }
+    NOTHING
 }
 
-pub enum Command {
-    Frame(FrameCommand),
-    Channel(ChannelCommand),
-    Unknown,
+// Octets are laid over the digits that say them.
+fn act(
+    command: usize,
+    values: &Values,
+    digits: &mut [u8],
+    channels: ChannelRecord,
+) -> ChannelRecord {
+    decode(digits);
+    let n = digits.len() / 2;
+    let data = part(digits, 0, n);
+    act_on_frame(command, values, data);
+    act_on_channels(command, values, data, channels)
 }
 
-pub fn command_in(word: &[u8]) -> Command
-    ensures { λ r. ⌜ r ≡ commandIn (now (word .entry)) ⌝ }
-{
-    frame_command(word, channel_command(word))
+fn act_on_frame(command: usize, values: &Values, data: &[u8]) {
+    match command {
+        CRC => crc(data),
+        HR => hr(data),
+        DR => dr(data),
+        FR => fr(values, data),
+        HW => hw(values),
+        FW => fw(values, data, false),
+        RW => fw(values, data, true),
+        _ => {}
+    }
 }
 
-fn frame_command(word: &[u8], other: Command) -> Command
-    ensures { λ r. ⌜ r ≡ firstOf (frameNames (now (word .entry))) other ⌝ }
-{
-    if check::same(word, b"crc") {
-        return Command::Frame(FrameCommand::Octets(OctetsCommand::Crc));
+fn act_on_channels(
+    command: usize,
+    values: &Values,
+    data: &[u8],
+    channels: ChannelRecord,
+) -> ChannelRecord {
+    match command {
+        OPEN => open(values, channels),
+        CLOSE => close(values, channels),
+        HEAR => hear(values, data, channels),
+        SHOW => show(values, channels),
+        TOTAL => total(channels),
+        _ => channels,
     }
-    if check::same(word, b"hr") {
-        return Command::Frame(FrameCommand::Octets(OctetsCommand::Hr));
-    }
-    if check::same(word, b"dr") {
-        return Command::Frame(FrameCommand::Octets(OctetsCommand::Dr));
-    }
-    if check::same(word, b"fr") {
-        return Command::Frame(FrameCommand::Fr);
-    }
-    if check::same(word, b"hw") {
-        return Command::Frame(FrameCommand::Hw);
-    }
-    if check::same(word, b"fw") {
-        return Command::Frame(FrameCommand::Write(false));
-    }
-    if check::same(word, b"rw") {
-        return Command::Frame(FrameCommand::Write(true));
-    }
-    other
-}
-
-fn channel_command(word: &[u8]) -> Command
-    ensures { λ r. ⌜ r ≡ firstOf (channelNames (now (word .entry))) Command.Unknown ⌝ }
-{
-    if check::same(word, b"open") {
-        return Command::Channel(ChannelCommand::Open);
-    }
-    if check::same(word, b"close") {
-        return Command::Channel(ChannelCommand::Close);
-    }
-    if check::same(word, b"hear") {
-        return Command::Channel(ChannelCommand::Hear);
-    }
-    if check::same(word, b"show") {
-        return Command::Channel(ChannelCommand::Show);
-    }
-    if check::same(word, b"total") {
-        return Command::Channel(ChannelCommand::Total);
-    }
-    Command::Unknown
 }

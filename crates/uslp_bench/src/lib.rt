@@ -1,105 +1,82 @@
-// The bench: one command on a line, one answer line.
-use command::ChannelCommand;
-use command::Command;
-use command::FrameCommand;
-use command::command_in;
-use frames::answer_fr;
-use frames::answer_frame;
-use frames::answer_hw;
-use frames::answer_octets;
-use uslp_answers::put_trouble;
-use uslp_arguments::Rest;
-use uslp_arguments::Trouble;
-use uslp_bench_channels::Answered;
-use uslp_bench_channels::close;
-use uslp_bench_channels::hear;
-use uslp_bench_channels::open;
-use uslp_bench_channels::show;
-use uslp_bench_channels::total;
+// The bench: a command on each line of standard input, an answer on each line of standard output.
+use command::answer;
+use libc::STDIN_FILENO;
 use uslp_record::ChannelRecord;
-use uslp_words::next_word;
-ghost use mathlib.Core.Path.{_≡_};
-ghost use mathlib.Core.List.{[]};
-ghost use Rattle.uslp_text.specs.Text.{Told};
-ghost use Rattle.uslp_bench.specs.Bench.{frameReply, channelReply, lineReply, Replied};
 
+mod answers;
+mod channels;
 mod command;
-mod frames;
+mod headers;
+mod places;
+mod reading;
+mod words;
+mod writing;
 
-// Octets of a command go into `octets`, a frame that is written into `buf`, the answer into `out`.
-pub fn answer(
-    line: &[u8],
+const LINE_ROOM: usize = 300000;
+
+type Line = [u8; LINE_ROOM];
+
+// What is kept from one line to the next.
+struct Bench {
     channels: ChannelRecord,
-    octets: &mut [u8],
-    buf: &mut [u8],
-    out: &mut [u8],
-) -> Answered
-    ensures { λ r. ⌜ Replied (lineReply (now (line .entry)) channels (now (octets .entry)) (now (buf .entry))) r (now (out .entry)) (now (out .exit)) (now (octets .exit)) (now (buf .exit)) ⌝ }
-{
-    let word = next_word(line, 0);
-    let start = word.start;
-    let end = word.end;
-    let rest = Rest {
-        at: end,
-        trouble: Trouble::Nothing,
+    // How many characters of the next line have come; more than its room if it is too long.
+    held: usize,
+    // The input has ended, or no answer can be written any more.
+    ended: bool,
+}
+
+// Answers standard input to its end. A proved loop has to end too: the turns count down from a number that no run uses up.
+pub fn run() {
+    let mut line = [0u8; LINE_ROOM];
+    let mut bench = Bench {
+        channels: ChannelRecord::new(),
+        held: 0,
+        ended: false,
     };
-    match command_in(&line[start..end]) {
-        Command::Frame(command) => {
-            answer_frames(command, line, rest, channels, octets, buf, out)
+    let mut turns = u64::MAX;
+    while turns > 0 && !bench.ended {
+        bench = answer_block(bench, &mut line);
+        turns -= 1;
+    }
+}
+
+fn answer_block(bench: Bench, line: &mut Line) -> Bench {
+    let mut block = io::large_buffer();
+    let n = io::count(libc::read(STDIN_FILENO, &mut block), &block);
+    if n == 0 {
+        return answer_last(bench, line);
+    }
+    answer_lines(&block[..n], bench, line)
+}
+
+// What stands behind the last line feed is a line too.
+fn answer_last(bench: Bench, line: &mut Line) -> Bench {
+    let mut last = bench;
+    if bench.held > 0 {
+        last = answer(line, bench);
+    }
+    last.ended = true;
+    last
+}
+
+fn answer_lines(block: &[u8], bench: Bench, line: &mut Line) -> Bench {
+    let mut now = bench;
+    let mut i: usize = 0;
+    while i < block.len() {
+        if block[i] == b'\n' {
+            now = answer(line, now);
+        } else {
+            now.held = keep(block[i], line, now.held);
         }
-        Command::Channel(command) => answer_channels(command, line, rest, channels, octets, out),
-        Command::Unknown => Answered {
-            next: channels,
-            len: put_trouble(Trouble::Command, out),
-        },
+        i += 1;
     }
+    now
 }
 
-fn answer_frames(
-    command: FrameCommand,
-    line: &[u8],
-    rest: Rest,
-    channels: ChannelRecord,
-    octets: &mut [u8],
-    buf: &mut [u8],
-    out: &mut [u8],
-) -> Answered
-    ensures { λ r. ⌜ Replied (frameReply command (now (line .entry)) rest channels (now (octets .entry)) (now (buf .entry))) r (now (out .entry)) (now (out .exit)) (now (octets .exit)) (now (buf .exit)) ⌝ }
-{
-    let len = match command {
-        FrameCommand::Octets(on_octets) => answer_octets(on_octets, line, rest, octets, out),
-        FrameCommand::Fr => answer_fr(line, rest, octets, out),
-        FrameCommand::Hw => answer_hw(line, rest, buf, out),
-        FrameCommand::Write(reserved) => answer_frame(reserved, line, rest, octets, buf, out),
-    };
-    Answered {
-        next: channels,
-        len,
+fn keep(c: u8, line: &mut [u8], held: usize) -> usize {
+    if held < line.len() {
+        line[held] = c;
+        return held + 1;
     }
-}
-
-// The buffer of a frame stays as it is.
-fn answer_channels(
-    command: ChannelCommand,
-    line: &[u8],
-    rest: Rest,
-    channels: ChannelRecord,
-    octets: &mut [u8],
-    out: &mut [u8],
-) -> Answered
-    ensures { λ r. ⌜ (r .next ≡ channelReply command (now (line .entry)) rest channels (now (octets .entry)) [] .next) × Told (channelReply command (now (line .entry)) rest channels (now (octets .entry)) [] .text) 0 (now (out .entry)) (r .len) (now (out .exit)) × (now (octets .exit) ≡ channelReply command (now (line .entry)) rest channels (now (octets .entry)) [] .octets) ⌝ }
-{
-    match command {
-        ChannelCommand::Open => open(line, rest, channels, out),
-        ChannelCommand::Close => close(line, rest, channels, out),
-        ChannelCommand::Hear => hear(line, rest, channels, octets, out),
-        ChannelCommand::Show => Answered {
-            next: channels,
-            len: show(line, rest, channels, out),
-        },
-        ChannelCommand::Total => Answered {
-            next: channels,
-            len: total(line, rest, channels, out),
-        },
-    }
+    line.len() + 1
 }

@@ -177,7 +177,8 @@ unfolding up
 top-law a h =
     let r = fed 0 a in
     ap (λ (x : ℕ). fed (fed x (a * 2 ^ 16 % 2 ^ 64)) a) (apart r (a / 2 ^ 48))
-    ∙ ap (λ (x : ℕ). fed x a) (feed-sums 64 (up 64 r) (fed 0 (a / 2 ^ 48)) 0 (a * 2 ^ 16 % 2 ^ 64) ∙ ap₂ bitXor (up-add 64 64 r) (shifted 64 16 48 a (omega arith) refl h))
+    ∙ ap (λ (x : ℕ). fed x a) (feed-sums 64 (up 64 r) (fed 0 (a / 2 ^ 48)) 0 (a * 2 ^ 16 % 2 ^ 64)
+    ∙ ap₂ bitXor (up-add 64 64 r) (shifted 64 16 48 a (omega arith) refl h))
     ∙ apart (bitXor (up 128 r) (up 16 r)) a
     ∙ ap (λ (x : ℕ). bitXor x r) (up-sums 64 (up 128 r) (up 16 r) ∙ ap₂ bitXor (up-add 64 128 r) (up-add 64 16 r))
     ∙ xor-comm (bitXor (up 192 r) (up 80 r)) r ∙ ap (bitXor r) (xor-comm (up 192 r) (up 80 r)) ∙ sym (xor-assoc r (up 80 r) (up 192 r))
@@ -227,7 +228,8 @@ module _ (m : List ℕ) (oct : AreOctets m) (r h : ℕ) where
       ∙ ap (λ (x : ℕ). bitXor x (a / 2 ^ (64 - 8 * h))) (ap₂ (λ (i k : ℕ). word 0 i m / 2 ^ k) eight octets ∙ word-front m oct 0 h (8 - h))
 
   pub begin-law : r < 2 ^ 16 → h < 8 → h + 8 ≤ length m
-      → four 0 0 0 (bitXor (word 0 8 m) (r * 2 ^ 48 % 2 ^ 64) / 2 ^ (32 - 4 * h) / 2 ^ (32 - 4 * h)) (bitXor (word h 8 m) (r * 2 ^ 48 % 2 ^ 64 * 2 ^ (8 * h) % 2 ^ 64))
+      → four 0 0 0 (bitXor (word 0 8 m) (r * 2 ^ 48 % 2 ^ 64) / 2 ^ (32 - 4 * h) / 2 ^ (32 - 4 * h))
+      (bitXor (word h 8 m) (r * 2 ^ 48 % 2 ^ 64 * 2 ^ (8 * h) % 2 ^ 64))
       ≡ feed r (bits (take (h + 8) m))
   unfolding up bits feed
   begin-law hr l n =
@@ -243,7 +245,9 @@ parts : (r s : ℕ) → r < 2 ^ 16 → s ≤ 64 → bitXor (fed 0 (r * 2 ^ s / 2
 unfolding up
 parts r s h l =
     xor-eq x (up s r)
-    (zsteps-zero 16 (bitXor x (up s r)) (xor-lt 16 x (up s r) (xor-lt 16 (fed 0 n) (r * 2 ^ s % 2 ^ 16) (feed-lt (lows 64 n) 0 (omega arith)) (mod-lt (r * 2 ^ s) (pow-pos 16))) (feed-lt (lows s 0) r h))
+    (zsteps-zero 16 (bitXor x (up s r))
+    (xor-lt 16 x (up s r) (xor-lt 16 (fed 0 n) (r * 2 ^ s % 2 ^ 16) (feed-lt (lows 64 n) 0 (omega arith)) (mod-lt (r * 2 ^ s) (pow-pos 16)))
+    (feed-lt (lows s 0) r h))
     (zsteps-xor 16 x (up s r) ∙ ap (λ (y : ℕ). bitXor y (zsteps 16 (up s r))) same ∙ xor-self (zsteps 16 (up s r))))
   where
     n : ℕ
@@ -257,7 +261,9 @@ parts r s h l =
 
     same : zsteps 16 x ≡ zsteps 16 (up s r)
     same =
-        ap (λ (y : ℕ). zsteps 16 (bitXor y (r * 2 ^ s % 2 ^ 16))) (ap (λ (k : ℕ). feed 0 (lows k n)) whole ∙ feed-lead (64 - s) s n (shr-lt s 16 (subst (λ (k : ℕ). r * 2 ^ s < 2 ^ k) (add-comm 16 s) (shl-lt 16 s h))))
+        ap (λ (y : ℕ). zsteps 16 (bitXor y (r * 2 ^ s % 2 ^ 16)))
+        (ap (λ (k : ℕ). feed 0 (lows k n)) whole
+        ∙ feed-lead (64 - s) s n (shr-lt s 16 (subst (λ (k : ℕ). r * 2 ^ s < 2 ^ k) (add-comm 16 s) (shl-lt 16 s h))))
         ∙ sym (sixteen (feed 0 (lows s n)) (r * 2 ^ s)) ∙ sym (feed-split s 16 0 (r * 2 ^ s)) ∙ ap (λ (k : ℕ). feed 0 (lows k (r * 2 ^ s))) (add-comm s 16)
         ∙ feed-shifted 16 s 0 r ∙ ap (up s) (top r h) ∙ up-add s 16 r ∙ ap (λ (k : ℕ). up k r) (add-comm s 16) ∙ sym (up-add 16 s r)
         ∙ sixteen (up s r) 0 ∙ ap (zsteps 16) (xor-zero-r (up s r))

@@ -53,7 +53,8 @@ residue-two m hi lo hh hl = (
 pub sealed : (m : List ℕ) → checksumOf (m ++ octets 2 (checksumOf m)) ≡ 0
 sealed m =
     let h = checksum-lt m in
-    residue-two m (checksumOf m / 256 ^ 1 % 256) (checksumOf m / 256 ^ 0 % 256) (mod-lt (checksumOf m / 256 ^ 1) (lit< tt)) (mod-lt (checksumOf m / 256 ^ 0) (lit< tt)) .1
+    residue-two m (checksumOf m / 256 ^ 1 % 256) (checksumOf m / 256 ^ 0 % 256) (mod-lt (checksumOf m / 256 ^ 1) (lit< tt))
+    (mod-lt (checksumOf m / 256 ^ 0) (lit< tt)) .1
     (omega arith)
 
 -- the same of a message's last two octets

@@ -1,4 +1,4 @@
--- CRC-16/IBM-3740: width 16, polynomial 0x1021, start 0xFFFF, high bit first, nothing inverted at the end.
+-- CRC-16/IBM-3740 (docs/RULES.md, section 1.4): width 16, polynomial 0x1021, start 0xFFFF, high bit first, nothing inverted at the end.
 use Prim.Native.Nat.{ℕ, zero, suc, _*_, _/_, _%_, _^_}
 use mathlib.Core.Bool.{Bool, true, false, cond}
 use mathlib.Core.List.{List, [], _∷_, _++_}

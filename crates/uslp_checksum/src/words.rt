@@ -78,7 +78,16 @@ pub fn word_at(message: &[u8], i: usize) -> u64
     requires { ⌜ i + 8 ≤ length (now message) ⌝ }
     ensures { λ r. ⌜ r ≡ word i 8 (now (message .entry)) ⌝ }
 {
-    number_in(message, i, 4) * 0x1_0000_0000 + number_in(message, i + 4, 4)
+    number_at(message, i, 4) * 0x1_0000_0000 + number_at(message, i + 4, 4)
+}
+
+// The number that so many octets make, at most eight, from a place on.
+fn number_at(message: &[u8], at: usize, width: usize) -> u64
+    requires { ⌜ (width ≤ 8) × (at + width ≤ length (now message)) ⌝ }
+    ensures { λ r. ⌜ r ≡ word at width (now (message .entry)) ⌝ }
+{
+    let end = at + width;
+    number_in(&message[at..end])
 }
 
 // Below eight octets: four at once, then two, then one, as many as there are.
@@ -91,7 +100,7 @@ pub fn by_halves(register: u16, message: &[u8]) -> u16
     let mut k: usize = 4;
     while 0 < k {
         if k <= message.len() - i {
-            current = take(current, number_in(message, i, k), 8 * k);
+            current = take(current, number_at(message, i, k), 8 * k);
             i += k;
         }
         k = k / 2;

@@ -1,4 +1,4 @@
 // Reads commands from standard input, one to a line, and prints one answer line for each.
 fn main() {
-    uslp_lines::run();
+    uslp_bench::run();
 }

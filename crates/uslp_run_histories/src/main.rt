@@ -1,4 +1,4 @@
 // Hears frames that a link lost, repeated, reordered and damaged, and shows totals after each.
 fn main() {
-    uslp_lines::run();
+    uslp_bench::run();
 }

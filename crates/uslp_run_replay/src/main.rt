@@ -1,4 +1,4 @@
 // Answers commands whose expected answers are the Rust's own.
 fn main() {
-    uslp_lines::run();
+    uslp_bench::run();
 }

@@ -4,12 +4,9 @@ use Rattle.uslp_checksum.specs.Checksum.{checksumOf}
 use Rattle.uslp_checksum.proofs.checksum.Statement.{statement}
 use Rattle.uslp_checksum.proofs.checksum.Tie as tie
 
-update-requires : tie.Need-update-requires
-update-requires c κs = search needs
-
 returns : tie.Need-returns
 unfolding checksumOf
 returns c = c .update .ensures
 
 pub checksum-spec : {M : Type 1} → statement M
-checksum-spec = tie.close (tie.spec update-requires returns)
+checksum-spec = tie.close (tie.spec (λ c κs. search needs) returns)

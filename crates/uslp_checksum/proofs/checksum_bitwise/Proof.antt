@@ -21,18 +21,6 @@ loop-holds : tie.Need-loop-holds Inv-loop μ-loop
 unfolding checksumOf bits feed
 loop-holds c = (omega arith, refl)
 
-shared-slice-read-octet-bitwise : tie.Need-shared-slice-read-octet-bitwise Inv-loop μ-loop
-shared-slice-read-octet-bitwise c = omega arith
-
-octet-bitwise-requires : tie.Need-octet-bitwise-requires Inv-loop μ-loop
-octet-bitwise-requires c κs = search needs
-
-add-i : tie.Need-add-i Inv-loop μ-loop
-add-i c = omega arith
-
-loop-less : tie.Need-loop-less Inv-loop μ-loop
-loop-less c = omega arith
-
 loop-again : tie.Need-loop-again Inv-loop μ-loop
 unfolding checksumOf
 loop-again c =
@@ -55,9 +43,9 @@ checksum-bitwise-spec =
     Inv-loop
     μ-loop
     loop-holds
-    shared-slice-read-octet-bitwise
-    octet-bitwise-requires
-    add-i
-    loop-less
+    (λ c. omega arith)
+    (λ c κs. search needs)
+    (λ c. omega arith)
+    (λ c. omega arith)
     loop-again
     returns)

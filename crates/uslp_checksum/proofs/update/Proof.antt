@@ -20,32 +20,11 @@ Inv-loop register message head wide₀ i₀ wide i =
 abbrev μ-loop : tie.MeasureT-loop
 μ-loop register message head wide₀ i₀ wide i = length message - i
 
-by-halves-requires : tie.Need-by-halves-requires Inv-loop μ-loop
-by-halves-requires c κs = search needs
-
 returns : tie.Need-returns Inv-loop μ-loop
 returns c = c .by-halves .ensures
 
-begin-requires : tie.Need-begin-requires Inv-loop μ-loop
-begin-requires c κs = omega arith
-
-add-i : tie.Need-add-i Inv-loop μ-loop
-add-i c = omega arith
-
 loop-holds : tie.Need-loop-holds Inv-loop μ-loop
 loop-holds c = (omega arith, omega arith, c .begin .ensures)
-
-word-at-requires : tie.Need-word-at-requires Inv-loop μ-loop
-word-at-requires c κs = omega arith
-
-take-word-requires : tie.Need-take-word-requires Inv-loop μ-loop
-take-word-requires c κs = search needs
-
-add-i-2 : tie.Need-add-i-2 Inv-loop μ-loop
-add-i-2 c = omega arith
-
-loop-less : tie.Need-loop-less Inv-loop μ-loop
-loop-less c = omega arith
 
 loop-again : tie.Need-loop-again Inv-loop μ-loop
 loop-again c =
@@ -57,18 +36,6 @@ loop-again c =
       c .take-word .ensures ∙ ap₂ fed (at .loop .inv .2) (c .before .word-at .ensures)
           ∙ sym (feed-word (now (args .message)) (λ i. omega (arith, known .shared-slice-known .given i)) (at .loop .i) (args .register) 8 (omega arith)),
     )
-
-join-requires : tie.Need-join-requires Inv-loop μ-loop
-join-requires c κs = search needs
-
-join-requires-2 : tie.Need-join-requires-2 Inv-loop μ-loop
-join-requires-2 c κs = search needs
-
-join-requires-3 : tie.Need-join-requires-3 Inv-loop μ-loop
-join-requires-3 c κs = search needs
-
-narrow-requires : tie.Need-narrow-requires Inv-loop μ-loop
-narrow-requires c κs = search needs
 
 returns-2 : tie.Need-returns-2 Inv-loop μ-loop
 unfolding standsFor
@@ -88,18 +55,18 @@ update-spec =
     (tie.spec
     Inv-loop
     μ-loop
-    by-halves-requires
+    (λ c κs. search needs)
     returns
-    begin-requires
-    add-i
+    (λ c κs. omega arith)
+    (λ c. omega arith)
     loop-holds
-    word-at-requires
-    take-word-requires
-    add-i-2
-    loop-less
+    (λ c κs. omega arith)
+    (λ c κs. search needs)
+    (λ c. omega arith)
+    (λ c. omega arith)
     loop-again
-    join-requires
-    join-requires-2
-    join-requires-3
-    narrow-requires
+    (λ c κs. search needs)
+    (λ c κs. search needs)
+    (λ c κs. search needs)
+    (λ c κs. search needs)
     returns-2)

@@ -25,9 +25,6 @@ loop-holds : tie.Need-loop-holds Inv-loop μ-loop
 unfolding bits feed Good right lows step bit
 loop-holds c = (omega arith, refl, tt)
 
-shared-slice-read-at : tie.Need-shared-slice-read-at Inv-loop μ-loop
-shared-slice-read-at c = omega arith
-
 -- the octet that was read, and the place in the table that it leads to
 octet : (c : tie.After-shared-slice-known Inv-loop μ-loop) → getD (now (c .before .before .before .args .message)) (c .before .before .loop .i) 0 < 256
 octet c = omega (arith, c .shared-slice-known .given (c .before .before .loop .i))
@@ -51,12 +48,6 @@ mul-current c = omega (arith, place c)
 
 array-read-current : tie.Need-array-read-current Inv-loop μ-loop
 array-read-current c = place c
-
-add-i : tie.Need-add-i Inv-loop μ-loop
-add-i c = omega arith
-
-loop-less : tie.Need-loop-less Inv-loop μ-loop
-loop-less c = omega arith
 
 loop-again : tie.Need-loop-again Inv-loop μ-loop
 loop-again c =
@@ -87,12 +78,12 @@ update-by-table-spec =
     Inv-loop
     μ-loop
     loop-holds
-    shared-slice-read-at
+    (λ c. omega arith)
     cast-at
     cast-at-2
     mul-current
     array-read-current
-    add-i
-    loop-less
+    (λ c. omega arith)
+    (λ c. omega arith)
     loop-again
     returns)

@@ -24,26 +24,14 @@ loop-holds : tie.Need-loop-holds Inv-loop μ-loop
 unfolding bits feed
 loop-holds c = (omega arith, omega arith, omega arith, omega arith, refl)
 
-sub-if1 : tie.Need-sub-if1 Inv-loop μ-loop
-sub-if1 c = omega arith
-
-number-in-requires : tie.Need-number-in-requires Inv-loop μ-loop
-number-in-requires c κs = omega arith
-
-mul-take : tie.Need-mul-take Inv-loop μ-loop
-mul-take c = omega arith
-
 take-requires : tie.Need-take-requires Inv-loop μ-loop
 take-requires c κs =
     let at = c .before .before .before in
-    let m = now (at .before .before .args .message) in
-    (omega arith, rw (c .number-in .ensures, pow-eight (at .loop .k)) (word-lt m (at .loop .i) (λ i. omega (arith, at .before .shared-slice-known .given i)) (at .loop .k)))
-
-add-i : tie.Need-add-i Inv-loop μ-loop
-add-i c = omega arith
-
-loop-less : tie.Need-loop-less Inv-loop μ-loop
-loop-less c = omega arith
+    let m = now (at .before .before .args .message) in (
+      omega arith,
+      rw (c .number-at .ensures, pow-eight (at .loop .k))
+          (word-lt m (at .loop .i) (λ i. omega (arith, at .before .shared-slice-known .given i)) (at .loop .k)),
+    )
 
 loop-again : tie.Need-loop-again Inv-loop μ-loop
 loop-again c =
@@ -77,11 +65,11 @@ by-halves-spec =
     Inv-loop
     μ-loop
     loop-holds
-    sub-if1
-    number-in-requires
-    mul-take
+    (λ c. omega arith)
+    (λ c κs. omega arith)
+    (λ c. omega arith)
     take-requires
-    add-i
-    loop-less
+    (λ c. omega arith)
+    (λ c. omega arith)
     loop-again
     returns)

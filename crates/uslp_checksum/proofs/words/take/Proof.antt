@@ -10,15 +10,6 @@ use Rattle.uslp_checksum.proofs.Folding.{take-law}
 use Rattle.uslp_checksum.proofs.words.take.Statement.{statement}
 use Rattle.uslp_checksum.proofs.words.take.Tie as tie
 
-shl-moved : tie.Need-shl-moved
-shl-moved c = search needs
-
-narrow-requires : tie.Need-narrow-requires
-narrow-requires c κs = search needs
-
-cast-result : tie.Need-cast-result
-cast-result c = search needs
-
 returns : tie.Need-returns
 returns c =
     let args = c .before .args in
@@ -27,4 +18,4 @@ returns c =
     ∙ take-law (args .register) (args .places) (args .number) (omega arith) (omega arith) (c .before .pre .1)
 
 pub take-spec : {M : Type 1} → statement M
-take-spec = tie.close (tie.spec shl-moved narrow-requires cast-result returns)
+take-spec = tie.close (tie.spec (λ c. search needs) (λ c κs. search needs) (λ c. search needs) returns)

@@ -1,1 +1,0 @@
-// What the promises of the bench settle, and the wrong answers that they shut out. No function.
