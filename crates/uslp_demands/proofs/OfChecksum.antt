@@ -1,7 +1,7 @@
 -- The promises of `uslp_checksum` settle each call, and shut out two tempting wrong answers of each function.
 use mathlib.Core.Path.{_≡_, refl, sym, _∙_}
 use mathlib.Core.List.{List, [], _∷_}
-use Prim.Native.Nat.{ℕ}
+use Prim.Native.Nat.{ℕ, zero, suc}
 use native.Mathlib.Omega.{arith}
 use Rattle.uslp_checksum.specs.Checksum.{bit, step, feed, lows, bits, checksumOf}
 use Rattle.uslp_checksum.proofs as checksum
@@ -23,6 +23,10 @@ fn-update = function checksum.update.Kinds.ps checksum.update.Kinds.r checksum.u
 -- the nine octets of the catalogue's check value
 abbrev digits : List ℕ
 digits = 0x31 ∷ 0x32 ∷ 0x33 ∷ 0x34 ∷ 0x35 ∷ 0x36 ∷ 0x37 ∷ 0x38 ∷ 0x39 ∷ []
+
+abbrev zeros : ℕ → List ℕ
+zeros zero = []
+zeros (suc n) = 0 ∷ zeros n
 
 check-value : checksumOf digits ≡ 0x29B1
 unfolding checksumOf feed bits lows bit step
@@ -62,6 +66,16 @@ update-deaf e = omega arith
 pub update-anew : Allows fn-update ([], tt) (0, (at [], tt)) (0xFFFF, (tt, (tt, tt))) → ⊥
 unfolding feed bits
 update-anew e = omega arith
+
+-- drops the first of two words
+pub update-drops : Allows checksum.update.Kinds.ps checksum.update.Kinds.r checksum.update.Reads.Learnt ([], tt) (0, (at (1 ∷ zeros 15), tt)) (0, (tt, (tt, tt))) → ⊥
+unfolding feed bits lows bit step
+update-drops e = omega arith
+
+-- forgets the register where a whole word comes
+pub update-forgets : Allows checksum.update.Kinds.ps checksum.update.Kinds.r checksum.update.Reads.Learnt ([], tt) (0xFFFF, (at (zeros 8), tt)) (0, (tt, (tt, tt))) → ⊥
+unfolding feed bits lows bit step
+update-forgets e = omega arith
 
 pub update-by-table-settles : Settles checksum.update_by_table.Kinds.ps checksum.update_by_table.Kinds.r checksum.update_by_table.Reads.Pre checksum.update_by_table.Reads.Learnt
 update-by-table-settles = record { total = λ κs a. tt; same = λ κs a x y s t. alike (s ∙ sym t) refl }
