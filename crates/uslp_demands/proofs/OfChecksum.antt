@@ -9,6 +9,11 @@ use Rattle.uslp_demands.specs.Promise.{Function, function, at, Allows, S
 use Rattle.uslp_demands.proofs.Alike.{alike}
 
 -- the functions, each with its promise
+abbrev fn-update-by-table : Function
+fn-update-by-table =
+    function checksum.update_by_table.Kinds.ps checksum.update_by_table.Kinds.r
+    checksum.update_by_table.Reads.Pre checksum.update_by_table.Reads.Learnt
+
 abbrev fn-checksum : Function
 fn-checksum = function checksum.checksum.Kinds.ps checksum.checksum.Kinds.r checksum.checksum.Reads.Pre checksum.checksum.Reads.Learnt
 
@@ -68,24 +73,24 @@ unfolding feed bits
 update-anew e = omega arith
 
 -- drops the first of two words
-pub update-drops : Allows checksum.update.Kinds.ps checksum.update.Kinds.r checksum.update.Reads.Learnt ([], tt) (0, (at (1 ∷ zeros 15), tt)) (0, (tt, (tt, tt))) → ⊥
+pub update-drops : Allows fn-update ([], tt) (0, (at (1 ∷ zeros 15), tt)) (0, (tt, (tt, tt))) → ⊥
 unfolding feed bits lows bit step
 update-drops e = omega arith
 
 -- forgets the register where a whole word comes
-pub update-forgets : Allows checksum.update.Kinds.ps checksum.update.Kinds.r checksum.update.Reads.Learnt ([], tt) (0xFFFF, (at (zeros 8), tt)) (0, (tt, (tt, tt))) → ⊥
+pub update-forgets : Allows fn-update ([], tt) (0xFFFF, (at (zeros 8), tt)) (0, (tt, (tt, tt))) → ⊥
 unfolding feed bits lows bit step
 update-forgets e = omega arith
 
-pub update-by-table-settles : Settles checksum.update_by_table.Kinds.ps checksum.update_by_table.Kinds.r checksum.update_by_table.Reads.Pre checksum.update_by_table.Reads.Learnt
+pub update-by-table-settles : Settles fn-update-by-table
 update-by-table-settles = record { total = λ κs a. tt; same = λ κs a x y s t. alike (s ∙ sym t) refl }
 
 -- keeps the register
-pub update-by-table-deaf : Allows checksum.update_by_table.Kinds.ps checksum.update_by_table.Kinds.r checksum.update_by_table.Reads.Learnt ([], tt) (0, (at (1 ∷ []), tt)) (0, (tt, (tt, tt))) → ⊥
+pub update-by-table-deaf : Allows fn-update-by-table ([], tt) (0, (at (1 ∷ []), tt)) (0, (tt, (tt, tt))) → ⊥
 unfolding feed bits lows bit step
 update-by-table-deaf e = omega arith
 
 -- starts anew from all ones
-pub update-by-table-anew : Allows checksum.update_by_table.Kinds.ps checksum.update_by_table.Kinds.r checksum.update_by_table.Reads.Learnt ([], tt) (0, (at [], tt)) (0xFFFF, (tt, (tt, tt))) → ⊥
+pub update-by-table-anew : Allows fn-update-by-table ([], tt) (0, (at [], tt)) (0xFFFF, (tt, (tt, tt))) → ⊥
 unfolding feed bits
 update-by-table-anew e = omega arith
