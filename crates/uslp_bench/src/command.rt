@@ -53,21 +53,20 @@ const NOTHING: usize = 12;
 
 // Answers the line that is held. One that is too long is no command, as an empty one.
 pub(crate) fn answer(line: &mut [u8], bench: Bench) -> Bench {
-    let mut values = no_values();
-    let command = command_in(part(line, 0, bench.held), &mut values);
-    let start = values[HEX] as usize;
-    let digits = next_word(line, start);
-    let channels = act(
-        command,
-        &values,
-        part_mut(line, start, digits.end),
-        bench.channels,
-    );
+    let channels = answer_line(part_mut(line, 0, bench.held), bench.channels);
     Bench {
         channels,
         held: 0,
         ended: !say(b"\n"),
     }
+}
+
+fn answer_line(line: &mut [u8], channels: ChannelRecord) -> ChannelRecord {
+    let mut values = no_values();
+    let command = command_in(line, &mut values);
+    let start = values[HEX] as usize;
+    let digits = next_word(line, start);
+    act(command, &values, part_mut(line, start, digits.end), channels)
 }
 
 // A row has a command's name and the places of its words.

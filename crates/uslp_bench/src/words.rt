@@ -19,23 +19,30 @@ pub(crate) enum Number {
 }
 
 pub(crate) fn next_word(text: &[u8], from: usize) -> Word {
-    let start = span(text, from, &BLANKS, true);
+    let start = skip(text, from, true);
     Word {
         start,
-        end: span(text, start, &BLANKS, false),
+        end: skip(text, start, false),
     }
 }
 
-// The place behind the characters of a set that stand from here on, or behind those that are not in it.
-fn span(text: &[u8], from: usize, set: &[u8], inside: bool) -> usize {
+// The place behind the blanks that stand from here on, or behind what is none.
+fn skip(text: &[u8], from: usize, blanks: bool) -> usize {
     let mut i = from;
     while i < text.len() {
-        if (find(set, 0, set.len(), text[i]) < set.len()) != inside {
+        if is_blank(text[i]) != blanks {
             return i;
         }
         i += 1;
     }
     i
+}
+
+fn is_blank(c: u8) -> bool {
+    match c {
+        b' ' | b'\t' | b'\n' | b'\x0c' | b'\r' => true,
+        _ => false,
+    }
 }
 
 // A part of a slice; nothing where the slice does not reach so far.
@@ -127,14 +134,28 @@ pub(crate) fn number_in(word: &[u8]) -> Number {
 }
 
 // The value of a lower-case hex digit, or 16.
-fn digit_in(c: u8) -> usize
+fn digit_in(c: u8) -> u8
     ensures { λ r. ⌜ r ≤ 16 ⌝ }
 {
-    find(&DIGITS, 0, 16, c)
+    match c {
+        b'0'..=b'9' => c - b'0',
+        b'a'..=b'f' => c - b'a' + 10,
+        _ => 16,
+    }
 }
 
 pub(crate) fn is_hex(word: &[u8]) -> bool {
-    word.len() > 0 && word.len() % 2 == 0 && span(word, 0, &DIGITS, true) == word.len()
+    if word.len() == 0 {
+        return false;
+    }
+    let mut i: usize = 0;
+    while i < word.len() {
+        if digit_in(word[i]) > 15 {
+            return false;
+        }
+        i += 1;
+    }
+    word.len() % 2 == 0
 }
 
 // Lays the octets that hex digits make over their front.
@@ -148,5 +169,5 @@ pub(crate) fn decode(digits: &mut [u8]) {
 }
 
 fn octet_in(first: u8, second: u8) -> u8 {
-    (digit_in(first) * 16 % 256 + digit_in(second) % 16) as u8
+    digit_in(first) % 16 * 16 + digit_in(second) % 16
 }

@@ -29,4 +29,5 @@ number-in-spec =
     (λ c. search needs)
     (λ c. search needs)
     (λ c. search needs)
+    (λ c. search needs)
     (λ c. search needs))
