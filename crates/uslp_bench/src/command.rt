@@ -1,20 +1,15 @@
 // The commands: their words, and what each does.
 use crate::Bench;
-use crate::answers::say;
-use crate::answers::say_bad;
 use crate::channels::close;
 use crate::channels::hear;
 use crate::channels::open;
 use crate::channels::show;
 use crate::channels::total;
+use crate::places::FECF;
 use crate::places::HEX;
 use crate::places::Values;
 use crate::places::no_values;
 use crate::places::read;
-use crate::reading::crc;
-use crate::reading::dr;
-use crate::reading::fr;
-use crate::reading::hr;
 use crate::words::decode;
 use crate::words::next_word;
 use crate::words::part;
@@ -22,6 +17,12 @@ use crate::words::part_mut;
 use crate::words::row_of;
 use crate::writing::fw;
 use crate::writing::hw;
+use libc::STDOUT_FILENO;
+use uslp_answers::reading::crc;
+use uslp_answers::reading::dr;
+use uslp_answers::reading::fr;
+use uslp_answers::reading::hr;
+use uslp_answers::say_bad;
 use uslp_record::ChannelRecord;
 
 // The rows of `command_in`.
@@ -57,7 +58,7 @@ pub(crate) fn answer(line: &mut [u8], bench: Bench) -> Bench {
     Bench {
         channels,
         held: 0,
-        ended: !say(b"\n"),
+        ended: !io::write_all(STDOUT_FILENO, b"\n"),
     }
 }
 
@@ -66,7 +67,12 @@ fn answer_line(line: &mut [u8], channels: ChannelRecord) -> ChannelRecord {
     let command = command_in(line, &mut values);
     let start = values[HEX] as usize;
     let digits = next_word(line, start);
-    act(command, &values, part_mut(line, start, digits.end), channels)
+    act(
+        command,
+        &values,
+        part_mut(line, start, digits.end),
+        channels,
+    )
 }
 
 // A row has a command's name and the places of its words.
@@ -119,7 +125,7 @@ fn act_on_frame(command: usize, values: &Values, data: &[u8]) {
         CRC => crc(data),
         HR => hr(data),
         DR => dr(data),
-        FR => fr(values, data),
+        FR => fr(data, values[FECF] == 1),
         HW => hw(values),
         FW => fw(values, data, false),
         RW => fw(values, data, true),

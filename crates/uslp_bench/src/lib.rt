@@ -3,12 +3,10 @@ use command::answer;
 use libc::STDIN_FILENO;
 use uslp_record::ChannelRecord;
 
-mod answers;
 mod channels;
 mod command;
 mod headers;
 mod places;
-mod reading;
 mod words;
 mod writing;
 

@@ -1,5 +1,4 @@
 // The places of a command's words, and what fits each.
-use crate::answers::say_bad;
 use crate::words::Number;
 use crate::words::index_of;
 use crate::words::is_hex;
@@ -7,6 +6,7 @@ use crate::words::next_word;
 use crate::words::number_in;
 use crate::words::part;
 use check::same;
+use uslp_answers::say_bad;
 
 // The names of the places, in the order of the numbers below.
 const NAMES: [u8; 86] =

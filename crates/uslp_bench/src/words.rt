@@ -3,10 +3,6 @@ use bytes::scan::find;
 use check::same;
 ghost use Prim.Native.Nat.{_≤_};
 
-const BLANKS: [u8; 5] = *b" \t\n\x0c\r";
-
-const DIGITS: [u8; 16] = *b"0123456789abcdef";
-
 // Where a word stands; it is empty where the text has no more.
 pub(crate) struct Word {
     pub(crate) start: usize,

@@ -1,7 +1,4 @@
 // The commands that write: hw, fw, rw.
-use crate::answers::say_bad;
-use crate::answers::say_refusal;
-use crate::answers::say_written;
 use crate::headers::frame_of;
 use crate::headers::header_of;
 use crate::headers::octet_of;
@@ -12,6 +9,9 @@ use crate::places::RULE;
 use crate::places::TOTAL;
 use crate::places::Values;
 use crate::words::part_mut;
+use uslp_answers::say_bad;
+use uslp_answers::say_refusal;
+use uslp_answers::say_written;
 use uslp_kinds::LengthAnswer;
 use uslp_kinds::ProtocolIdAnswer;
 use uslp_kinds::UslpProtocolId;

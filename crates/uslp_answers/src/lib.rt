@@ -1,4 +1,4 @@
-// What an answer says, piece by piece on standard output.
+// What the bench says: an answer, piece by piece on standard output. Nothing is handed back and nothing lent is changed.
 use libc::STDOUT_FILENO;
 use uslp_data_field_header::TransferFrameDataFieldHeader;
 use uslp_kinds::FhpOrLvo;
@@ -8,15 +8,18 @@ use uslp_kinds::Refusal;
 use uslp_octets::number_in;
 use uslp_primary_header::PrimaryHeader;
 
+pub mod channels;
+pub mod reading;
+
 // Octets that are said at once.
 const GROUP: usize = 8;
 
-pub(crate) fn say(text: &[u8]) -> bool {
-    io::write_all(STDOUT_FILENO, text)
+pub(crate) fn say(text: &[u8]) {
+    io::write_all(STDOUT_FILENO, text);
 }
 
 // A word does not fit the place of this name.
-pub(crate) fn say_bad(name: &[u8]) {
+pub fn say_bad(name: &[u8]) {
     say(b"bad ");
     say(name);
 }
@@ -74,7 +77,7 @@ fn say_group(octets: &[u8]) {
 }
 
 // The number of a refusal, and what it carries.
-pub(crate) fn say_refusal(refusal: Refusal) {
+pub fn say_refusal(refusal: Refusal) {
     say_number(refusal.number() as u64);
     match refusal {
         Refusal::ShortSource { found, expected } => say_two(found as u64, expected as u64),
@@ -91,7 +94,7 @@ pub(crate) fn say_refusal(refusal: Refusal) {
 }
 
 // How many octets were written, and the whole buffer.
-pub(crate) fn say_written(answer: LengthAnswer, buf: &[u8]) {
+pub fn say_written(answer: LengthAnswer, buf: &[u8]) {
     match answer {
         LengthAnswer::Done(n) => {
             say_zero();

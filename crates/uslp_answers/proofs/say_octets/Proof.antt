@@ -1,9 +1,9 @@
--- `uslp_bench::answers::say_octets` is safe and ends.
+-- `uslp_answers::say_octets` is safe and ends.
 use Prim.Native.Nat.{_-_}
 use borrow.Author.Needs.{needs}
 use lib.ListN.{length}
-use Rattle.uslp_bench.proofs.answers.say_octets.Statement.{statement}
-use Rattle.uslp_bench.proofs.answers.say_octets.Tie as tie
+use Rattle.uslp_answers.proofs.say_octets.Statement.{statement}
+use Rattle.uslp_answers.proofs.say_octets.Tie as tie
 
 abbrev Inv-loop : tie.InvT-loop
 Inv-loop octets i₀ i = Unit

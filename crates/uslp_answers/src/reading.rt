@@ -1,13 +1,11 @@
 // The commands that read: crc, hr, dr, fr.
-use crate::answers::say_data;
-use crate::answers::say_field_header;
-use crate::answers::say_header;
-use crate::answers::say_number;
-use crate::answers::say_ocf;
-use crate::answers::say_refusal;
-use crate::answers::say_zero;
-use crate::places::FECF;
-use crate::places::Values;
+use crate::say_data;
+use crate::say_field_header;
+use crate::say_header;
+use crate::say_number;
+use crate::say_ocf;
+use crate::say_refusal;
+use crate::say_zero;
 use uslp_checksum::checksum;
 use uslp_data_field_header::DataFieldHeaderAnswer;
 use uslp_data_field_header::TransferFrameDataFieldHeader;
@@ -16,11 +14,11 @@ use uslp_primary_header::PrimaryHeader;
 use uslp_reader::FrameAnswer;
 use uslp_reader::TransferFrame;
 
-pub(crate) fn crc(octets: &[u8]) {
+pub fn crc(octets: &[u8]) {
     say_number(checksum(octets) as u64);
 }
 
-pub(crate) fn hr(octets: &[u8]) {
+pub fn hr(octets: &[u8]) {
     match PrimaryHeader::from_bytes(octets) {
         HeaderAnswer::Done(header) => {
             say_zero();
@@ -30,7 +28,7 @@ pub(crate) fn hr(octets: &[u8]) {
     }
 }
 
-pub(crate) fn dr(octets: &[u8]) {
+pub fn dr(octets: &[u8]) {
     match TransferFrameDataFieldHeader::from_bytes(octets) {
         DataFieldHeaderAnswer::Done(header) => {
             say_zero();
@@ -40,8 +38,8 @@ pub(crate) fn dr(octets: &[u8]) {
     }
 }
 
-pub(crate) fn fr(values: &Values, octets: &[u8]) {
-    match TransferFrame::from_bytes(octets, values[FECF] == 1) {
+pub fn fr(octets: &[u8], has_fecf: bool) {
+    match TransferFrame::from_bytes(octets, has_fecf) {
         FrameAnswer::Done(frame) => say_frame(frame, octets),
         FrameAnswer::Refused(refusal) => say_refusal(refusal),
     }
