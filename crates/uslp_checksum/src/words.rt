@@ -17,7 +17,7 @@ pub struct Wide {
 }
 
 // The octets that fill no word come first, as a number: zeros before it lead nowhere. The register is added to the first 16 bits, wherever they fall.
-pub fn begin(register: u16, message: &[u8], head: usize) -> Wide
+pub(crate) fn begin(register: u16, message: &[u8], head: usize) -> Wide
     requires { ⌜ (head < 8) × (head + 8 ≤ length (now message)) ⌝ }
     ensures { λ r. ⌜ standsFor r ≡ feed register (bits (take (head + 8) (now (message .entry)))) ⌝ }
 {
@@ -74,7 +74,7 @@ pub fn narrow(word: u64) -> u16
 }
 
 // The eight octets from place i on, as one number: in two halves, since the compiler makes one load of these and not of eight octets in a row.
-pub fn word_at(message: &[u8], i: usize) -> u64
+pub(crate) fn word_at(message: &[u8], i: usize) -> u64
     requires { ⌜ i + 8 ≤ length (now message) ⌝ }
     ensures { λ r. ⌜ r ≡ word i 8 (now (message .entry)) ⌝ }
 {
@@ -91,7 +91,7 @@ fn number_at(message: &[u8], at: usize, width: usize) -> u64
 }
 
 // Below eight octets: four at once, then two, then one, as many as there are.
-pub fn by_halves(register: u16, message: &[u8]) -> u16
+pub(crate) fn by_halves(register: u16, message: &[u8]) -> u16
     requires { ⌜ length (now message) < 8 ⌝ }
     ensures { λ r. ⌜ r ≡ feed register (bits (now (message .entry))) ⌝ }
 {

@@ -37,7 +37,12 @@ pub fn raw_frame(raw: &[u8], found: FrameFound) -> &[u8]
 }
 
 pub fn data(raw: &[u8], found: FrameFound) -> &[u8]
-    ensures { λ r. ⌜ PartOf (raw .entry) (contentsReadAt (paperFrame (found .answer)) (now (raw .entry))) (contentsRead (paperFrame (found .answer)) (now (raw .entry))) r ⌝ }
+    ensures { λ r. ⌜
+        PartOf (raw .entry)
+        (contentsReadAt (paperFrame (found .answer)) (now (raw .entry)))
+        (contentsRead (paperFrame (found .answer)) (now (raw .entry)))
+        r
+        ⌝ }
 {
     let answer = found.answer;
     uslp_reader::data_of(answer, raw)

@@ -70,7 +70,12 @@ impl<'a> TransferFrameReader<'a> {
 
     // The data as a part of the lent buffer; nothing on a refusal.
     pub fn data(self) -> &'a [u8]
-        ensures { λ r. ⌜ PartOf (self .entry .raw) (contentsReadAt (paperFrame (self .entry .found .answer)) (now (self .entry .raw))) (contentsRead (paperFrame (self .entry .found .answer)) (now (self .entry .raw))) r ⌝ }
+        ensures { λ r. ⌜
+            PartOf (self .entry .raw)
+            (contentsReadAt (paperFrame (self .entry .found .answer)) (now (self .entry .raw)))
+            (contentsRead (paperFrame (self .entry .found .answer)) (now (self .entry .raw)))
+            r
+            ⌝ }
     {
         parts::data(self.raw, self.found)
     }
@@ -126,7 +131,12 @@ impl<'a> TransferFrameReader<'a> {
 
 // Plain parameters and a plain result: whoever calls this needs no walk.
 pub fn frame_data<'a>(buf: &'a [u8], has_fecf: bool) -> &'a [u8]
-    ensures { λ r. ⌜ PartOf (buf .entry) (contentsReadAt (frameReading (now (buf .entry)) «has_fecf») (now (buf .entry))) (contentsRead (frameReading (now (buf .entry)) «has_fecf») (now (buf .entry))) r ⌝ }
+    ensures { λ r. ⌜
+        PartOf (buf .entry)
+        (contentsReadAt (frameReading (now (buf .entry)) «has_fecf») (now (buf .entry)))
+        (contentsRead (frameReading (now (buf .entry)) «has_fecf») (now (buf .entry)))
+        r
+        ⌝ }
 {
     TransferFrameReader::from_bytes(buf, has_fecf).data()
 }

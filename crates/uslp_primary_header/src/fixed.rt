@@ -44,7 +44,12 @@ pub fn fixed_of(header: PrimaryHeader) -> u64
 
 // With the numbers of the header's kinds.
 fn joined(header: PrimaryHeader, role: u8, bypass: u8, command: u8, ocf: u8) -> u64
-    requires { ⌜ (role ≡ sourceOrDestNumber (header .«source_or_dest_field»)) × (bypass ≡ bypassNumber (header .«sequence_control_flag»)) × (command ≡ commandNumber (header .«protocol_control_command_flag»)) × (ocf ≡ flag (header .«ocf_flag»)) ⌝ }
+    requires { ⌜
+        (role ≡ sourceOrDestNumber (header .«source_or_dest_field»))
+        × (bypass ≡ bypassNumber (header .«sequence_control_flag»))
+        × (command ≡ commandNumber (header .«protocol_control_command_flag»))
+        × (ocf ≡ flag (header .«ocf_flag»))
+        ⌝ }
     ensures { λ r. ⌜ r ≡ valueOf (fixedTable 0 header) ⌝ }
 {
     USLP_VERSION_NUMBER as u64 * VERSION

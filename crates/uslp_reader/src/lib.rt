@@ -158,7 +158,11 @@ fn read_body(
     header: PrimaryHeader,
     field: TransferFrameDataFieldHeader,
 ) -> FrameAnswer
-    requires { ⌜ (headerReading (now buf) ≡ done header) × (lenFrame header ≤ length (now buf)) × (fieldReading (drop (lenHeader header) (now buf)) ≡ done field) ⌝ }
+    requires { ⌜
+        (headerReading (now buf) ≡ done header)
+        × (lenFrame header ≤ length (now buf))
+        × (fieldReading (drop (lenHeader header) (now buf)) ≡ done field)
+        ⌝ }
     ensures { λ r. ⌜ paperFrame r ≡ frameReading (now (buf .entry)) «has_fecf» ⌝ }
 {
     let length = header.len_frame();

@@ -80,7 +80,11 @@ fn width_of(state: SlotState) -> u8
 
 fn step_of(state: SlotState, count: u64) -> Step
     requires { ⌜ widthAt state ≤ 7 ⌝ }
-    ensures { λ r. ⌜ (r .full ≡ overfull (totalsAt state count)) × (r .arrival ≡ arrivalAt state count) × (r .full ≡ false → r .totals ≡ totalsAt state count) ⌝ }
+    ensures { λ r. ⌜
+        (r .full ≡ overfull (totalsAt state count))
+        × (r .arrival ≡ arrivalAt state count)
+        × (r .full ≡ false → r .totals ≡ totalsAt state count)
+        ⌝ }
 {
     match state {
         SlotState::Closed => first(count),
@@ -120,7 +124,11 @@ fn first(count: u64) -> Step
 // A frame of a channel that was heard before. Totals that stand too high are not added to, so that no sum wraps.
 fn later(arrival: Arrival, count: u64, totals: Totals) -> Step
     requires { ⌜ totalsAfter arrival count totals .missing < totals .missing + 2 ^ 60 ⌝ }
-    ensures { λ r. ⌜ (r .full ≡ overfull (totalsAfter arrival count totals)) × (r .arrival ≡ arrival) × (r .full ≡ false → r .totals ≡ totalsAfter arrival count totals) ⌝ }
+    ensures { λ r. ⌜
+        (r .full ≡ overfull (totalsAfter arrival count totals))
+        × (r .arrival ≡ arrival)
+        × (r .full ≡ false → r .totals ≡ totalsAfter arrival count totals)
+        ⌝ }
 {
     if full(totals) {
         return Step {

@@ -30,7 +30,10 @@ pub extern "C" fn uslp_timing_checksum(message: &[u8]) -> u16
 // Reads a frame with FECF: 0, and all that the frame says in `found`, so that no part of the reading is left out; or the refusal's number.
 #[no_mangle]
 pub extern "C" fn uslp_timing_read(octets: &[u8], found: &mut [u64; 16]) -> u8
-    ensures { λ r. ⌜ (r ≡ told (frameReading (now (octets .entry)) true)) × (now (found .exit) ≡ numbersFound (frameReading (now (octets .entry)) true) (now (found .entry))) ⌝ }
+    ensures { λ r. ⌜
+        (r ≡ told (frameReading (now (octets .entry)) true))
+        × (now (found .exit) ≡ numbersFound (frameReading (now (octets .entry)) true) (now (found .entry)))
+        ⌝ }
 {
     match TransferFrame::from_bytes(octets, true) {
         FrameAnswer::Done(frame) => {
@@ -52,7 +55,10 @@ pub extern "C" fn uslp_timing_write(
     data: &[u8],
     buf: &mut [u8],
 ) -> usize
-    ensures { λ r. ⌜ (r ≡ lengthTold (frameWriting (timed «spacecraft_id» «vc_id» «map_id» width count) (now («data» .entry)) (now (buf .entry)))) × (now (buf .exit) ≡ octetsLeft (frameWriting (timed «spacecraft_id» «vc_id» «map_id» width count) (now («data» .entry)) (now (buf .entry)))) ⌝ }
+    ensures { λ r. ⌜
+        (r ≡ lengthTold (frameWriting (timed «spacecraft_id» «vc_id» «map_id» width count) (now («data» .entry)) (now (buf .entry))))
+        × (now (buf .exit) ≡ octetsLeft (frameWriting (timed «spacecraft_id» «vc_id» «map_id» width count) (now («data» .entry)) (now (buf .entry))))
+        ⌝ }
 {
     let frame = frame_with(spacecraft_id, vc_id, map_id, width, count);
     match frame.write_to_slice(data, buf) {

@@ -57,7 +57,10 @@ impl TransferFrameCreator {
 
 // The total, once both headers have passed: OCF_MISSING, TOO_LONG.
 fn total_of(frame: TransferFrameCreator, data_len: usize) -> LengthAnswer
-    requires { ⌜ (headerChecking (frame .«primary_header») ≡ done (frame .«primary_header»)) × (fieldChecking (frame .«data_field_header») ≡ done (frame .«data_field_header»)) ⌝ }
+    requires { ⌜
+        (headerChecking (frame .«primary_header») ≡ done (frame .«primary_header»))
+        × (fieldChecking (frame .«data_field_header») ≡ done (frame .«data_field_header»))
+        ⌝ }
     ensures { λ r. ⌜ paperLength r ≡ frameLength frame «data_len» ⌝ }
 {
     if ocf_missing(frame) {

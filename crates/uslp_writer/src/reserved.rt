@@ -189,8 +189,16 @@ fn put_reserved(
 
 // Both headers, with the OCF flag and the length updated; gives where the data start.
 fn put_headers(frame: TransferFrameCreator, total: usize, buf: &mut [u8]) -> usize
-    requires { ⌜ (headerChecking (frame .«primary_header») ≡ done (frame .«primary_header»)) × (fieldChecking (frame .«data_field_header») ≡ done (frame .«data_field_header»)) × (total ≤ 65536) × (dataStart (frame .«primary_header») (frame .«data_field_header») ≤ length (now buf)) ⌝ }
-    ensures { λ r. ⌜ (r ≡ dataStart (frame .«primary_header») (frame .«data_field_header»)) × (now (buf .exit) ≡ headerOctets frame total ++ drop r (now (buf .entry))) ⌝ }
+    requires { ⌜
+        (headerChecking (frame .«primary_header») ≡ done (frame .«primary_header»))
+        × (fieldChecking (frame .«data_field_header») ≡ done (frame .«data_field_header»))
+        × (total ≤ 65536)
+        × (dataStart (frame .«primary_header») (frame .«data_field_header») ≤ length (now buf))
+        ⌝ }
+    ensures { λ r. ⌜
+        (r ≡ dataStart (frame .«primary_header») (frame .«data_field_header»))
+        × (now (buf .exit) ≡ headerOctets frame total ++ drop r (now (buf .entry)))
+        ⌝ }
 {
     let header = completed_header(frame, total);
     let field = frame.data_field_header;

@@ -1,4 +1,5 @@
--- `uslp_checksum::update` meets its contract. After i octets of a message of eight or more, the words stand for the register that was fed the first i octets, and whole words are left.
+-- `uslp_checksum::update` meets its contract. After i octets of a message of eight or more, the words stand for the register that was fed the first i
+-- octets, and whole words are left.
 use mathlib.Core.Path.{_≡_, sym, ap, ap₂, _∙_}
 use mathlib.Core.List.{List}
 use Prim.Native.Nat.{ℕ, _≤_, _-_, _%_}

@@ -1,7 +1,7 @@
 -- `uslp_octets::copy_octets` meets its contract. The loop's invariant: the octets passed are pasted over the front.
 use mathlib.Core.Path.{_≡_, refl, ap, ap₂, _∙_, sym}
 use Prim.Native.Nat.{ℕ, suc, _+_, _≤_, _<_, _-_}
-use mathlib.Core.List.{List, [], _∷_, _++_}
+use mathlib.Core.List.{List, _++_}
 use native.Mathlib.Omega.{arith}
 use native.Mathlib.Numerals.{add-one}
 use native.Mathlib.Nat.{zero-add}
