@@ -9,7 +9,10 @@ use uslp_octets::number_in;
 use uslp_primary_header::PrimaryHeader;
 
 pub mod channels;
+mod headers;
 pub mod reading;
+pub mod values;
+pub mod writing;
 
 // Octets that are said at once.
 const GROUP: usize = 8;

@@ -1,13 +1,15 @@
 // The commands on the channel record: open, close, hear, show, total.
-use crate::headers::channel_of;
-use crate::headers::octet_of;
-use crate::places::FECF;
-use crate::places::Values;
-use crate::places::WIDTH;
 use uslp_answers::channels::say_done;
 use uslp_answers::channels::say_heard;
 use uslp_answers::channels::say_state;
 use uslp_answers::channels::say_total;
+use uslp_answers::values::FECF;
+use uslp_answers::values::SCID;
+use uslp_answers::values::VC;
+use uslp_answers::values::Values;
+use uslp_answers::values::WIDTH;
+use uslp_answers::values::octet_of;
+use uslp_record::Channel;
 use uslp_record::ChannelRecord;
 use uslp_record::Recorded;
 
@@ -40,4 +42,11 @@ pub(crate) fn show(values: &Values, channels: ChannelRecord) -> ChannelRecord {
 pub(crate) fn total(channels: ChannelRecord) -> ChannelRecord {
     say_total(channels.total_missing());
     channels
+}
+
+fn channel_of(values: &Values) -> Channel {
+    Channel {
+        spacecraft_id: (values[SCID] % 65536) as u16,
+        vc_id: octet_of(values[VC]),
+    }
 }

@@ -5,10 +5,8 @@ use uslp_record::ChannelRecord;
 
 mod channels;
 mod command;
-mod headers;
 mod places;
 mod words;
-mod writing;
 
 const LINE_ROOM: usize = 300000;
 

@@ -7,57 +7,25 @@ use crate::words::number_in;
 use crate::words::part;
 use check::same;
 use uslp_answers::say_bad;
+use uslp_answers::values::BUF_ROOM;
+use uslp_answers::values::BUFLEN;
+use uslp_answers::values::BYPASS;
+use uslp_answers::values::DEST;
+use uslp_answers::values::END;
+use uslp_answers::values::FECF;
+use uslp_answers::values::HEX;
+use uslp_answers::values::NONE;
+use uslp_answers::values::OCF;
+use uslp_answers::values::OCF_FLAG;
+use uslp_answers::values::PCC;
+use uslp_answers::values::PLACES;
+use uslp_answers::values::PTR;
+use uslp_answers::values::SCID;
+use uslp_answers::values::Values;
 
 // The names of the places, in the order of the numbers below.
 const NAMES: [u8; 86] =
     *b"scid dest vc map total bypass pcc ocfflag width count rule pid ptr ocf fecf buflen hex";
-
-pub(crate) const SCID: usize = 0;
-
-pub(crate) const DEST: usize = 1;
-
-pub(crate) const VC: usize = 2;
-
-pub(crate) const MAP: usize = 3;
-
-pub(crate) const TOTAL: usize = 4;
-
-pub(crate) const BYPASS: usize = 5;
-
-pub(crate) const PCC: usize = 6;
-
-pub(crate) const OCF_FLAG: usize = 7;
-
-pub(crate) const WIDTH: usize = 8;
-
-pub(crate) const COUNT: usize = 9;
-
-pub(crate) const RULE: usize = 10;
-
-pub(crate) const PID: usize = 11;
-
-pub(crate) const PTR: usize = 12;
-
-pub(crate) const OCF: usize = 13;
-
-pub(crate) const FECF: usize = 14;
-
-pub(crate) const BUFLEN: usize = 15;
-
-pub(crate) const HEX: usize = 16;
-
-const END: usize = 17;
-
-const PLACES: usize = 18;
-
-// What the words of a line say, by place: numbers, and where the octets begin.
-pub(crate) type Values = [u64; PLACES];
-
-// A value that is not there.
-pub(crate) const NONE: u64 = u64::MAX;
-
-// A buffer of so many octets is shown in a line.
-pub(crate) const BUF_ROOM: usize = 140000;
 
 pub(crate) fn no_values() -> Values {
     [NONE; PLACES]

@@ -1,17 +1,16 @@
 // The commands that write: hw, fw, rw.
 use crate::headers::frame_of;
 use crate::headers::header_of;
-use crate::headers::octet_of;
-use crate::places::BUF_ROOM;
-use crate::places::BUFLEN;
-use crate::places::PID;
-use crate::places::RULE;
-use crate::places::TOTAL;
-use crate::places::Values;
-use crate::words::part_mut;
-use uslp_answers::say_bad;
-use uslp_answers::say_refusal;
-use uslp_answers::say_written;
+use crate::say_bad;
+use crate::say_refusal;
+use crate::say_written;
+use crate::values::BUF_ROOM;
+use crate::values::BUFLEN;
+use crate::values::PID;
+use crate::values::RULE;
+use crate::values::TOTAL;
+use crate::values::Values;
+use crate::values::octet_of;
 use uslp_kinds::LengthAnswer;
 use uslp_kinds::ProtocolIdAnswer;
 use uslp_kinds::UslpProtocolId;
@@ -31,7 +30,14 @@ fn fresh() -> [u8; BUF_ROOM]
     [0xEE; BUF_ROOM]
 }
 
-pub(crate) fn hw(values: &Values) {
+fn front(octets: &mut [u8], len: usize) -> &mut [u8] {
+    if len <= octets.len() {
+        return &mut octets[0..len];
+    }
+    &mut octets[0..0]
+}
+
+pub fn hw(values: &Values) {
     match whole_header(header_of(values), values[TOTAL] as usize) {
         HeaderAnswer::Refused(refusal) => say_refusal(refusal),
         HeaderAnswer::Done(header) => write_header(header, values[BUFLEN] as usize),
@@ -48,13 +54,13 @@ fn whole_header(header: PrimaryHeader, total: usize) -> HeaderAnswer {
 
 fn write_header(header: PrimaryHeader, len: usize) {
     let mut room = fresh();
-    let buf = part_mut(&mut room, 0, len);
+    let buf = front(&mut room, len);
     let answer = header.write_to_slice(buf);
     say_written(answer, buf);
 }
 
 // fw, or rw where the data area is reserved first. A rule or a protocol id that no frame has is told after all words are read.
-pub(crate) fn fw(values: &Values, data: &[u8], reserved: bool) {
+pub fn fw(values: &Values, data: &[u8], reserved: bool) {
     if values[RULE] > 7 {
         say_bad(b"rule");
         return;
@@ -74,7 +80,7 @@ pub(crate) fn fw(values: &Values, data: &[u8], reserved: bool) {
 
 fn write_frame(frame: TransferFrameCreator, data: &[u8], len: usize, reserved: bool) {
     let mut room = fresh();
-    let buf = part_mut(&mut room, 0, len);
+    let buf = front(&mut room, len);
     let answer = written(frame, data, buf, reserved);
     say_written(answer, buf);
 }

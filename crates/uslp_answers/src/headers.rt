@@ -1,19 +1,20 @@
 // The values of the library that the words of a line make.
-use crate::places::BYPASS;
-use crate::places::COUNT;
-use crate::places::DEST;
-use crate::places::FECF;
-use crate::places::MAP;
-use crate::places::NONE;
-use crate::places::OCF;
-use crate::places::OCF_FLAG;
-use crate::places::PCC;
-use crate::places::PTR;
-use crate::places::RULE;
-use crate::places::SCID;
-use crate::places::VC;
-use crate::places::Values;
-use crate::places::WIDTH;
+use crate::values::BYPASS;
+use crate::values::COUNT;
+use crate::values::DEST;
+use crate::values::FECF;
+use crate::values::MAP;
+use crate::values::NONE;
+use crate::values::OCF;
+use crate::values::OCF_FLAG;
+use crate::values::PCC;
+use crate::values::PTR;
+use crate::values::RULE;
+use crate::values::SCID;
+use crate::values::VC;
+use crate::values::Values;
+use crate::values::WIDTH;
+use crate::values::octet_of;
 use uslp_data_field_header::TransferFrameDataFieldHeader;
 use uslp_kinds::BypassSequenceControlFlag;
 use uslp_kinds::ConstructionRule;
@@ -23,23 +24,7 @@ use uslp_kinds::ProtocolControlCommandFlag;
 use uslp_kinds::SourceOrDestField;
 use uslp_kinds::UslpProtocolId;
 use uslp_primary_header::PrimaryHeader;
-use uslp_record::Channel;
 use uslp_writer::TransferFrameCreator;
-
-// A channel, map or width that fits no octet is told as one that the library refuses.
-pub(crate) fn octet_of(value: u64) -> u8 {
-    if value > 255 {
-        return 255;
-    }
-    value as u8
-}
-
-pub(crate) fn channel_of(values: &Values) -> Channel {
-    Channel {
-        spacecraft_id: (values[SCID] % 65536) as u16,
-        vc_id: octet_of(values[VC]),
-    }
-}
 
 pub(crate) fn header_of(values: &Values) -> PrimaryHeader {
     PrimaryHeader {
