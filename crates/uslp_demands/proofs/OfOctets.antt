@@ -20,6 +20,9 @@ fn-be-u16 = function octets.be_u16.Kinds.ps octets.be_u16.Kinds.r octets.be_u16.
 abbrev fn-be-u32 : Function
 fn-be-u32 = function octets.be_u32.Kinds.ps octets.be_u32.Kinds.r octets.be_u32.Reads.Pre octets.be_u32.Reads.Learnt
 
+abbrev fn-number-in : Function
+fn-number-in = function octets.number_in.Kinds.ps octets.number_in.Kinds.r octets.number_in.Reads.Pre octets.number_in.Reads.Learnt
+
 pub copy-octets-settles : Settles fn-copy-octets
 copy-octets-settles = record { total = λ κs a. tt; same = λ κs a x y s t. alike refl (λ i. (tt, ((s ∙ sym t) i, tt))) }
 
@@ -63,3 +66,14 @@ be-u32-little e = omega arith
 -- the halves swapped
 pub be-u32-halves : Allows fn-be-u32 tt (1, (2, (3, (4, tt)))) (0x03040102, (tt, (tt, (tt, (tt, tt))))) → ⊥
 be-u32-halves e = omega arith
+
+pub number-in-settles : Settles fn-number-in
+number-in-settles = record { total = λ κs a. tt; same = λ κs a x y s t. alike (s ∙ sym t) refl }
+
+-- the least significant octet first
+pub number-in-little : Allows fn-number-in ([], tt) (at (1 ∷ 2 ∷ []), tt) (0x0201, (tt, tt)) → ⊥
+number-in-little e = let z : _≡_ {A = ℕ} 0x0201 0x0102 = e in omega arith
+
+-- the last octet alone
+pub number-in-last : Allows fn-number-in ([], tt) (at (1 ∷ 2 ∷ []), tt) (2, (tt, tt)) → ⊥
+number-in-last e = let z : _≡_ {A = ℕ} 2 0x0102 = e in omega arith
