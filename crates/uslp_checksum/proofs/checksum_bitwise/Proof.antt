@@ -24,9 +24,9 @@ loop-holds c = (omega arith, refl)
 loop-again : tie.Need-loop-again Inv-loop μ-loop
 unfolding checksumOf
 loop-again c =
-    let start = c .before .before .before .before .before in
-    let m = now (start .args .message) in
-    let turn = c .before .before .before .loop in (
+    let l = c .before .before .before in
+    let m = now (l .before .before .args .message) in
+    let turn = l .loop in (
       omega arith,
       c .octet-bitwise .ensures ∙ ap (λ (x : ℕ). feed x (lows 8 (getD m (turn .i) 0))) (turn .inv .1)
           ∙ sym (feed-more 0xFFFF m (turn .i) (omega arith)),

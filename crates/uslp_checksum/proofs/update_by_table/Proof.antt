@@ -25,17 +25,22 @@ loop-holds : tie.Need-loop-holds Inv-loop μ-loop
 unfolding bits feed Good right lows step bit
 loop-holds c = (omega arith, refl, tt)
 
--- the octet that was read, and the place in the table that it leads to
-octet : (c : tie.After-shared-slice-known Inv-loop μ-loop) → getD (now (c .before .before .before .args .message)) (c .before .before .loop .i) 0 < 256
-octet c = omega (arith, c .shared-slice-known .given (c .before .before .loop .i))
+-- the loop, from behind the reading of an octet; the octet that was read, and the place in the table that it leads to
+abbrev loopOf : tie.After-shared-slice-known Inv-loop μ-loop → tie.At-loop Inv-loop μ-loop
+loopOf c = c .before .before
 
-place : (c : tie.After-shared-slice-known Inv-loop μ-loop)
-    → bitXor (c .before .before .loop .current / 256) (getD (now (c .before .before .before .args .message)) (c .before .before .loop .i) 0) < 256
+abbrev octetOf : tie.After-shared-slice-known Inv-loop μ-loop → ℕ
+octetOf c = getD (now (loopOf c .before .args .message)) (loopOf c .loop .i) 0
+
+octet : (c : tie.After-shared-slice-known Inv-loop μ-loop) → octetOf c < 256
+octet c = omega (arith, c .shared-slice-known .given (loopOf c .loop .i))
+
+place : (c : tie.After-shared-slice-known Inv-loop μ-loop) → bitXor (loopOf c .loop .current / 256) (octetOf c) < 256
 place c =
-    let start = c .before .before .before in
-    let turn = c .before .before .loop in
-    let h = feed-lt (bits (take (turn .i) (now (start .args .message)))) (start .args .register) (omega arith) in
-    xor-lt 8 (turn .current / 256) (getD (now (start .args .message)) (turn .i) 0) (omega arith) (octet c)
+    let a = loopOf c .before .args in
+    let turn = loopOf c .loop in
+    let h = feed-lt (bits (take (turn .i) (now (a .message)))) (a .register) (omega arith) in
+    xor-lt 8 (turn .current / 256) (octetOf c) (omega arith) (octet c)
 
 cast-at : tie.Need-cast-at Inv-loop μ-loop
 cast-at c = omega (arith, octet c)
@@ -51,17 +56,16 @@ array-read-current c = place c
 
 loop-again : tie.Need-loop-again Inv-loop μ-loop
 loop-again c =
-    let start = c .before .before .before in
-    let m = now (start .args .message) in
-    let turn = c .before .before .loop in
-    let o : ℕ = getD m (turn .i) 0 in
+    let a = loopOf c .before .args in
+    let turn = loopOf c .loop in
+    let o : ℕ = octetOf c in
     let k : ℕ = bitXor (turn .current / 256) o in (
       omega arith,
       ap (bitXor (turn .current * 256 % 2 ^ 16)) (entry _ (turn .inv .2) k (place c) (place c))
           ∙ sym (by-table (turn .current) o)
           ∙ sym (feed-octet (turn .current) o (octet c))
           ∙ ap (λ (x : ℕ). feed x (lows 8 o)) (turn .inv .1)
-          ∙ sym (feed-more (start .args .register) m (turn .i) (omega arith)),
+          ∙ sym (feed-more (a .register) (now (a .message)) (turn .i) (omega arith)),
       turn .inv .2,
     )
 

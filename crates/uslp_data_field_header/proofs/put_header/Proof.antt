@@ -31,8 +31,7 @@ slice-write-buf c =
 part-put-number-end : tie.Need-part-put-number-end
 part-put-number-end c =
     let c5 = c .before .before .before .before .before in
-    let c6 = c5 .before in
-    let l = c6 in
+    let l = c5 .before in
     let a = l .before .before in
     let three = pointer-len (a .args .header) (a .pre) _ (c .before .pointer .given .1) in
     simp length-set (omega (arith, three, l .len-header .ensures, c5 .if1 .left))

@@ -11,9 +11,13 @@ use borrow.Author.Needs.{needs}
 use Rattle.uslp_list.proofs.print_listing.Statement.{statement}
 use Rattle.uslp_list.proofs.print_listing.Tie as tie
 
-inside : (d : tie.After-known-told) → d .before .length .given .0 .0 ≤ length (d .before .before .before .before .list .last .1 .0)
+-- the call of `list`, from behind its answer
+abbrev listOf : tie.After-known-told → tie.After-list
+listOf d = d .before .before .before .before
+
+inside : (d : tie.After-known-told) → d .before .length .given .0 .0 ≤ length (listOf d .list .last .1 .0)
 inside d =
-    let l = d .before .before .before .before .list in
+    let l = listOf d .list in
     over-inside _ _ (sym (ap (λ (r : LengthAnswer). leaving (paperLength r) (l .last .1 .0)) (d .before .length .given .1)) ∙ l .ensures)
 
 pub print-listing-spec : {M : Type 1} → statement M

@@ -47,14 +47,17 @@ answered d e =
 abbrev frameOf : tie.After-len-frame Inv-loop μ-loop → tie.After-known-told Inv-loop μ-loop
 frameOf c = c .before .before .before .before .before
 
-reading : (d : tie.After-known-told Inv-loop μ-loop) → frameReading (rest (d .before .before .before)) false ≡ done (d .before .frame .given .0 .0)
-reading d = answered (d .before .before .before) (d .before .frame .given .1)
+abbrev readOf : tie.After-known-told Inv-loop μ-loop → tie.After-from-bytes Inv-loop μ-loop
+readOf d = d .before .before .before
+
+reading : (d : tie.After-known-told Inv-loop μ-loop) → frameReading (rest (readOf d)) false ≡ done (d .before .frame .given .0 .0)
+reading d = answered (readOf d) (d .before .frame .given .1)
 
 -- a turn: the frame's line behind the others
 loop-again : tie.Need-loop-again Inv-loop μ-loop
 loop-again c =
     let d = frameOf c in
-    let l = loopOf (d .before .before .before) in
+    let l = loopOf (readOf d) in
     let g = d .known-told .given in
     passed-more (startOf l .pre) (l .loop .inv) (d .before .frame .given .0 .0) (omega arith) (reading d)
     (record { spacecraft = omega (arith, g); channel = omega (arith, g); map = omega (arith, g); count = omega (arith, g) })
@@ -65,7 +68,7 @@ add-place : tie.Need-add-place Inv-loop μ-loop
 add-place c = omega (arith, loop-again c .inside)
 
 add-frames : tie.Need-add-frames Inv-loop μ-loop
-add-frames c = let i = loopOf (frameOf c .before .before .before) .loop .inv in omega (arith, i .few, i .inside)
+add-frames c = let i = loopOf (readOf (frameOf c)) .loop .inv in omega (arith, i .few, i .inside)
 
 loop-less : tie.Need-loop-less Inv-loop μ-loop
 loop-less c = omega (arith, loop-again c .inside, c .len-frame .ensures, frame-eight _ (reading (frameOf c)))

@@ -43,8 +43,9 @@ slice-write-to c = ltb-true _ _ (c .before .if1 .taken)
 
 loop-again : tie.Need-loop-again Inv-loop μ-loop
 loop-again c =
-    let a = c .before .before .before .before .args in
-    let l = c .before .before .before .loop in
+    let at = c .before .before .before in
+    let a = at .before .args in
+    let l = at .loop in
     let h : l .i < length (l .to) = ltb-true _ _ (c .before .if1 .taken) in (
       omega arith,
       omega arith,

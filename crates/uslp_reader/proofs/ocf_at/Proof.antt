@@ -8,7 +8,10 @@ use Rattle.uslp_reader.proofs.ocf_at.Statement.{statement}
 use Rattle.uslp_reader.proofs.ocf_at.Tie as tie
 
 room : (d : tie.Then1) → let a = d .before .before .args in a .at + 4 ≤ length (a .buf .now)
-room d = let a = d .before .before .args in ocf-room (a .flag) (a .at) (a .buf .now) (d .if1 .taken) (d .before .before .pre)
+room d =
+    let start = d .before .before in
+    let a = start .args in
+    ocf-room (a .flag) (a .at) (a .buf .now) (d .if1 .taken) (start .pre)
 
 shared-slice-read-be-u32 : tie.Need-shared-slice-read-be-u32
 shared-slice-read-be-u32 c = omega (arith, room (c .before))

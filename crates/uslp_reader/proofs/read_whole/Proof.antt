@@ -23,9 +23,12 @@ returns c =
     ap (λ (a : ℕ). refused 1 (length (start .args .buf .now) ∷ a ∷ [])) l
     ∙ sym (reading-short _ _ _ (start .pre) (omega (arith, l, c .if1 .taken)))
 
+abbrev startOf : tie.After-len-header → tie.Start
+startOf d = d .before .before .before .before
+
 -- the header that was read stands in the octets
-long : (d : tie.After-len-header) → d .len-header .result ≤ length (d .before .before .before .before .args .buf .now)
-long d = omega (arith, d .len-header .ensures, read-long _ _ (d .before .before .before .before .pre))
+long : (d : tie.After-len-header) → d .len-header .result ≤ length (startOf d .args .buf .now)
+long d = omega (arith, d .len-header .ensures, read-long _ _ (startOf d .pre))
 
 sub-from-bytes : tie.Need-sub-from-bytes
 sub-from-bytes c = long c
@@ -35,10 +38,10 @@ part-from-bytes-start c = long c
 
 -- an answer to the reading of the rest names what stands there
 answered : (d : tie.After-from-bytes) {r : DataFieldHeaderAnswer} → d .from-bytes .result ≡ r
-    → let a = d .before .before .before .before .before .before .args in fieldReading (drop (lenHeader (a .header)) (a .buf .now)) ≡ paperField r
+    → let a = startOf (d .before .before) .args in fieldReading (drop (lenHeader (a .header)) (a .buf .now)) ≡ paperField r
 answered d e =
-    let s = d .before .before .before .before .before .before .args .buf .now in
-    ap fieldReading (sym (rest-part s _ _ (d .before .before .len-header .ensures))) ∙ sym (d .from-bytes .ensures) ∙ ap paperField e
+    let h = d .before .before in
+    ap fieldReading (sym (rest-part (startOf h .args .buf .now) _ _ (h .len-header .ensures))) ∙ sym (d .from-bytes .ensures) ∙ ap paperField e
 
 read-body-requires : tie.Need-read-body-requires
 read-body-requires c κs =

@@ -22,19 +22,22 @@ blank = replicate 20 0
 part-numeral-end : tie.Need-part-numeral-end
 part-numeral-end c = omega (arith, c .decimal-len .ensures, short (c .before .before .args .value) (omega (arith, c .before .before .fits .value)))
 
+abbrev startOf : tie.After-put-decimal → tie.Start
+startOf d = d .before .before .before .before
+
 -- what fills the part is the numeral
-numeral : (d : tie.After-put-decimal) → d .put-decimal .last .1 .0 ≡ decimal (d .before .before .before .before .args .value)
+numeral : (d : tie.After-put-decimal) → d .put-decimal .last .1 .0 ≡ decimal (startOf d .args .value)
 numeral d =
-    let v = d .before .before .before .before .args .value in
+    let v = startOf d .args .value in
     let w = d .before .before .decimal-len in
-    let h = short v (omega (arith, d .before .before .before .before .fits .value)) in
+    let h = short v (omega (arith, startOf d .fits .value)) in
     let long : length (take (w .result - 0) blank) ≡ width v = omega (arith, w .ensures, length-take-le (w .result - 0) blank (omega (arith, w .ensures))) in
     d .put-decimal .ensures ∙ ap (λ (k : ℕ). digits k v) long
 
 part-put-text-end : tie.Need-part-put-text-end
 part-put-text-end c =
     let d = c .before .before in
-    let v = d .before .before .before .before .args .value in
+    let v = startOf d .args .value in
     let n = d .before .before .decimal-len in
     omega (arith, length-append (d .put-decimal .last .1 .0) (drop (n .result - 0) blank), ap length (numeral d), length-digits (width v) v, n .ensures)
 
@@ -42,7 +45,7 @@ returns : tie.Need-returns
 returns c =
     let p = c .before .before in
     let d = p .before .before .before .before .before in
-    let a = d .before .before .before .before .args in
+    let a = startOf d .args in
     let n = d .before .before .decimal-len .result in
     let long : length (d .put-decimal .last .1 .0) ≡ n = ap length (numeral d) ∙ length-digits (width (a .value)) (a .value)
     ∙ sym (d .before .before .decimal-len .ensures) in

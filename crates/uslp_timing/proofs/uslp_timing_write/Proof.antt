@@ -10,13 +10,16 @@ use Rattle.uslp_timing.specs.Timing.{timed, lengthTold, octetsLeft}
 use Rattle.uslp_timing.proofs.uslp_timing_write.Statement.{statement}
 use Rattle.uslp_timing.proofs.uslp_timing_write.Tie as tie
 
+abbrev startOf : tie.After-write-to-slice → tie.Start
+startOf d = d .before .before .before .before .before
+
 -- the writing, by its answer
 left : (d : tie.After-write-to-slice) {x : LengthAnswer} → d .write-to-slice .result ≡ x
-    → let a = d .before .before .before .before .before .args in
+    → let a = startOf d .args in
     frameWriting (timed (a .spacecraft-id) (a .vc-id) (a .map-id) (a .width) (a .count)) (a .«data» .now) (a .buf .now) ≡ leaving (paperLength x)
     (d .write-to-slice .last .1 .1 .0)
 left d e =
-    let a = d .before .before .before .before .before .args in
+    let a = startOf d .args in
     ap (λ (f : TransferFrameCreator). frameWriting f (a .«data» .now) (a .buf .now)) (sym (d .before .before .frame-with .ensures))
     ∙ sym (d .write-to-slice .ensures)
     ∙ ap (λ (x : LengthAnswer). leaving (paperLength x) (d .write-to-slice .last .1 .1 .0)) e

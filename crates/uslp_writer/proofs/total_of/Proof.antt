@@ -21,8 +21,11 @@ given d = sym (d .before .ocf-missing .ensures) ∙ d .if1 .left
 abbrev besidesOf : TransferFrameCreator → PrimaryHeader → ℕ
 besidesOf k h = needed h (k .«data_field_header») (k .«has_fecf»)
 
-besides : (d : tie.After-needed-len) → let k = d .before .before .before .before .before .before .args .frame in d .needed-len .result ≡ besidesOf k (flagged k)
-besides d = d .needed-len .ensures ∙ ap (besidesOf (d .before .before .before .before .before .before .args .frame)) (d .before .before .with-ocf-flag .ensures)
+abbrev frameOf : tie.After-needed-len → TransferFrameCreator
+frameOf d = d .before .before .before .before .before .before .args .frame
+
+besides : (d : tie.After-needed-len) → d .needed-len .result ≡ besidesOf (frameOf d) (flagged (frameOf d))
+besides d = d .needed-len .ensures ∙ ap (besidesOf (frameOf d)) (d .before .before .with-ocf-flag .ensures)
 
 returns : tie.Need-returns
 returns c =
@@ -37,24 +40,21 @@ returns-2 c =
 add-total : tie.Need-add-total
 add-total c =
     let c3 = c .before .before .before in
-    let c6 = c3 .before .before .before in
-    let a = c6 in
+    let a = c3 .before .before .before in
     omega (arith, besides c, needed-in (a .args .frame) (a .pre .0), a, c3 .if2 .left)
 
 returns-3 : tie.Need-returns-3
 returns-3 c =
     let c5 = c .before .before .before .before .before in
-    let c7 = c5 .before .before in
-    let a = c7 in
+    let a = c5 .before .before in
     sym
-    (length-long (a .args .frame) (a .args .data-len) (a .pre .0) (a .pre .1) (given (c5))
+    (length-long (a .args .frame) (a .args .data-len) (a .pre .0) (a .pre .1) (given c5)
     (omega (arith, c .if3 .taken, besides (c .before))))
 
 returns-4 : tie.Need-returns-4
 returns-4 c =
     let c5 = c .before .before .before .before .before in
-    let c7 = c5 .before .before in
-    let a = c7 in
+    let a = c5 .before .before in
     let e = besides (c .before) in
     ap (λ (k : ℕ). done (k + a .args .data-len)) e
     ∙ sym
@@ -62,7 +62,7 @@ returns-4 c =
     (record {
       header-passes = a .pre .0;
       field-passes = a .pre .1;
-      ocf-given = given (c5);
+      ocf-given = given c5;
       fits = omega (arith, c .if3 .left, e);
     }))
 

@@ -14,9 +14,10 @@ returns-2 : tie.Need-returns-2
 returns-2 c =
     let e = c .before .before in
     let r = e .before .from-number in
-    let s = e .before .before .before .before .before .args .buf .now in
+    let f = e .before .before .before in
+    let s = f .before .before .args .buf .now in
     sym
-    (reading-short s (e .before .before .before .if1 .left) (r .result) _ (rule-at s ∙ sym (r .ensures)) (number-at s)
+    (reading-short s (f .if1 .left) (r .result) _ (rule-at s ∙ sym (r .ensures)) (number-at s)
     (sym (e .applicable-to-fixed-len-tfdz .ensures) ∙ c .before .if2 .taken) (c .if3 .taken))
 
 returns-3 : tie.Need-returns-3
@@ -24,21 +25,23 @@ returns-3 c =
     let d = c .before .before .before .before in
     let e = d .before .before in
     let r = e .before .from-number in
-    let s = e .before .before .before .before .before .args .buf .now in
+    let f = e .before .before .before in
+    let s = f .before .before .args .buf .now in
     let p : word 1 2 s ≡ c .before .be-u16 .result = omega (arith, c .before .be-u16 .ensures) in
     c .with-protocol .ensures
     ∙ sym
-    (reading-pointer s (e .before .before .before .if1 .left) (r .result) _ (rule-at s ∙ sym (r .ensures)) (number-at s)
+    (reading-pointer s (f .if1 .left) (r .result) _ (rule-at s ∙ sym (r .ensures)) (number-at s)
     (sym (e .applicable-to-fixed-len-tfdz .ensures) ∙ d .before .if2 .taken) _ p (d .if3 .left))
 
 returns-4 : tie.Need-returns-4
 returns-4 c =
     let e = c .before .before in
     let r = e .before .from-number in
-    let s = e .before .before .before .before .before .args .buf .now in
+    let f = e .before .before .before in
+    let s = f .before .before .args .buf .now in
     c .with-protocol2 .ensures
     ∙ sym
-    (reading-other s (e .before .before .before .if1 .left) (r .result) _ (rule-at s ∙ sym (r .ensures)) (number-at s)
+    (reading-other s (f .if1 .left) (r .result) _ (rule-at s ∙ sym (r .ensures)) (number-at s)
     (sym (e .applicable-to-fixed-len-tfdz .ensures) ∙ c .before .if2 .left))
 
 pub from-bytes-spec : {M : Type 1} → statement M

@@ -38,7 +38,8 @@ returns c =
     let e = d .before .before in
     let f = e .before .before in
     let g = f .before .before .before .before .before .before .before .before in
-    same-numbers (g .before .before .before .before .args .self) (g .before .before .before .before .args .other)
+    let a = g .before .before .before .before .args in
+    same-numbers (a .self) (a .other)
     (g .before .number .ensures) (g .number2 .ensures) (f .before .number3 .ensures) (f .number4 .ensures)
     (e .before .number5 .ensures) (e .number6 .ensures) (d .before .bit-of .ensures) (d .bit-of2 .ensures)
 

@@ -14,10 +14,13 @@ use Rattle.uslp_primary_header.proofs.PrimaryHeader.from_bytes.Tie as t
 octs : (c : tie.After-shared-slice-known) → AreOctets (c .before .args .buf .now)
 octs c k = omega (arith, c .shared-slice-known .given k)
 
+abbrev knownOf : tie.After-number-in → tie.After-shared-slice-known
+knownOf c = c .before .before .before .before .before .before
+
 -- the number of the first seven octets
-fixed : (c : tie.After-number-in) → c .number-in .result ≡ word 0 7 (c .before .before .before .before .before .before .before .args .buf .now)
+fixed : (c : tie.After-number-in) → c .number-in .result ≡ word 0 7 (knownOf c .before .args .buf .now)
 fixed c =
-    let k = c .before .before .before .before .before .before in
+    let k = knownOf c in
     let s = k .before .args .buf .now in
     c .number-in .ensures ∙ ap (λ (n : ℕ). n % 2 ^ 64) (word-part 0 7 s (c .before .before .if3 .left)) ∙ word-fits s 0 (octs k) 7 (lit≤ tt)
 

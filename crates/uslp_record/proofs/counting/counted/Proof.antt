@@ -10,14 +10,13 @@ use Rattle.uslp_record.proofs.counting.counted.Tie as tie
 
 add-next : tie.Need-add-next
 add-next c =
-    let c4 = c .before .before .before .before in
-    omega (arith, full-not (c4 .args .totals) (c4 .pre .0))
+    let start = c .before .before .before .before in
+    omega (arith, full-not (start .args .totals) (start .pre .0))
 
 add-next-2 : tie.Need-add-next-2
 add-next-2 c =
     let c3 = c .before .before .before in
-    let c5 = c3 .before .before in
-    let s = c5 in
+    let s = c3 .before .before in
     omega (
       arith,
       gap-fits (s .args .arrival) (s .args .count) _ (s .args .totals) (c3 .arrival .given .1) (s .pre .0)
@@ -25,10 +24,10 @@ add-next-2 c =
     )
 
 add-next-3 : tie.Need-add-next-3
-add-next-3 c = omega (arith, full-not (c .before .before .before .args .totals) (c .before .before .before .pre .0))
+add-next-3 c = let start = c .before .before .before in omega (arith, full-not (start .args .totals) (start .pre .0))
 
 add-next-4 : tie.Need-add-next-4
-add-next-4 c = omega (arith, full-not (c .before .before .before .args .totals) (c .before .before .before .pre .0))
+add-next-4 c = let start = c .before .before .before in omega (arith, full-not (start .args .totals) (start .pre .0))
 
 returns : tie.Need-returns
 returns c =

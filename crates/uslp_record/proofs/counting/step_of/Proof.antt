@@ -18,8 +18,7 @@ arrival-of-requires c κs = omega (arith, ap widthAt (c .before .before .state .
 later-requires : tie.Need-later-requires
 later-requires c κs =
     let c3 = c .before .before .before in
-    let c5 = c3 .before .before in
-    let s = c5 in
+    let s = c3 .before .before in
     let e = c3 .state .given in
     arrives-near (e .0 .1 .0) (c .before .difference .result) (c .arrival-of .result) (s .args .count) (e .0 .1 .1 .0)
     (omega (arith, ap widthAt (e .1), s .pre)) (c .arrival-of .ensures)

@@ -19,18 +19,16 @@ total-of-requires c κs =
 returns : tie.Need-returns
 returns c =
     let c3 = c .before .before .before in
-    let c6 = c3 .before .before .before in
-    let a = c6 in
+    let a = c3 .before .before .before in
     sym (length-header (a .args .self) (a .args .data-len) (sym (c3 .checked .ensures) ∙ ap paperHeader (c .before .refusal .given .1)))
 
 returns-2 : tie.Need-returns-2
 returns-2 c =
     let c3 = c .before .before .before in
     let c4 = c3 .before in
-    let c9 = c4 .before .before .before .before .before in
-    let a = c9 in
+    let a = c4 .before .before .before .before .before in
     sym
-    (length-field (a .args .self) (a .args .data-len) (passes (c4))
+    (length-field (a .args .self) (a .args .data-len) (passes c4)
     (sym (c3 .checked2 .ensures) ∙ ap paperField (c .before .refusal2 .given .1)))
 
 pub len-written-spec : {M : Type 1} → statement M

@@ -12,7 +12,7 @@ use Rattle.uslp_writer.proofs.TransferFrameCreatorWithReservedData.fill
 
 -- what `finish_len` answered
 given : (d : tie.After-finish-len) {x : LengthAnswer} → d .finish-len .result ≡ x
-    → finishLength (d .before .before .before .args .self) (length (d .before .before .before .args .buf .now)) ≡ paperLength x
+    → let a = d .before .before .before .args in finishLength (a .self) (length (a .buf .now)) ≡ paperLength x
 given d e = sym (d .finish-len .ensures) ∙ ap paperLength e
 
 add-end : tie.Need-add-end
@@ -31,8 +31,7 @@ returns-2 : tie.Need-returns-2
 returns-2 c =
     let c3 = c .before .before .before in
     let c6 = c3 .before .before .before in
-    let c8 = c6 .before .before in
-    let d = c8 in
+    let d = c6 .before .before in
     let a = d .before .before .before .args in
     filling-put (a .self) (a .buf .now) (a .«data» .now) (given d (c6 .enum-told .given .1))
     (c .lesser .ensures) (c3 .copy-octets .ensures)

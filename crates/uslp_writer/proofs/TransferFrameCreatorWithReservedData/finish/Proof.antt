@@ -19,32 +19,29 @@ put-fecf-requires : tie.Need-put-fecf-requires
 put-fecf-requires c κs =
     let c3 = c .before .before .before in
     let c5 = c3 .before .before in
-    fecf-room _ _ (given (c5) (c3 .total .given .1)) (c .before .if1 .taken)
+    fecf-room _ _ (given c5 (c3 .total .given .1)) (c .before .if1 .taken)
 
 returns : tie.Need-returns
 returns c =
     let c4 = c .before .before .before .before in
     let c6 = c4 .before .before in
     let c8 = c6 .before .before in
-    let c10 = c8 .before .before in
-    let a = c10 in
-    let e = given (c8) (c6 .total .given .1) in
+    let a = c8 .before .before in
+    let e = given c8 (c6 .total .given .1) in
     ap (leaving (done (c6 .total .given .0 .0))) (c .before .before .put-fecf .ensures)
     ∙ sym (finishing-fecf (a .args .self) (a .args .buf .now) e (c4 .if1 .taken))
 
 returns-2 : tie.Need-returns-2
 returns-2 c =
     let c3 = c .before .before .before in
-    let c5 = c3 .before .before in
-    let a = c5 in
-    sym (finishing-refused (a .args .self) (a .args .buf .now) (given (c3) (c .before .refusal .given .1)))
+    let a = c3 .before .before in
+    sym (finishing-refused (a .args .self) (a .args .buf .now) (given c3 (c .before .refusal .given .1)))
 
 returns-3 : tie.Need-returns-3
 returns-3 c =
     let c4 = c .before .before .before .before in
-    let c6 = c4 .before .before in
-    let a = c6 in
-    sym (finishing-plain (a .args .self) (a .args .buf .now) (given (c4) (c .before .before .total .given .1)) (c .if1 .left))
+    let a = c4 .before .before in
+    sym (finishing-plain (a .args .self) (a .args .buf .now) (given c4 (c .before .before .total .given .1)) (c .if1 .left))
 
 pub finish-spec : {M : Type 1} → statement M
 finish-spec =

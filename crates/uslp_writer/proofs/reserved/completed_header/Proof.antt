@@ -12,7 +12,7 @@ use Rattle.uslp_writer.proofs.reserved.completed_header.Tie as tie
 
 -- the answer of setting the length
 set : (d : tie.After-with-frame-len)
-    → paperHeader (d .with-frame-len .result) ≡ done (completed (d .before .before .args .frame) (d .before .before .args .total))
+    → let a = d .before .before .args in paperHeader (d .with-frame-len .result) ≡ done (completed (a .frame) (a .total))
 set d =
     let a = d .before .before in
     d .with-frame-len .ensures

@@ -28,8 +28,7 @@ returns-2 c =
 returns-3 : tie.Need-returns-3
 returns-3 c =
     let c4 = c .before .before .before .before in
-    let c5 = c4 .before in
-    let a = c5 in
+    let a = c4 .before in
     sym (finish-claims (a .args .frame) (a .args .found) (c4 .if1 .left) (omega (arith, c .if3 .taken)))
 
 add-needed-2 : tie.Need-add-needed-2
@@ -42,16 +41,14 @@ add-needed-2 c =
 returns-4 : tie.Need-returns-4
 returns-4 c =
     let c7 = c .before .before .before .before .before .before .before in
-    let c8 = c7 .before in
-    let a = c8 in
+    let a = c7 .before in
     sym (finish-claims (a .args .frame) (a .args .found) (c7 .if1 .left)
     (omega (arith, c .if4 .taken, c .before .fecf-len .ensures)))
 
 returns-5 : tie.Need-returns-5
 returns-5 c =
     let c8 = c .before .before .before .before .before .before .before .before in
-    let c9 = c8 .before in
-    let a = c9 in
+    let a = c8 .before in
     rw (c .before .before .fecf-len .ensures)
     (sym
     (finish-small (a .args .frame) (a .args .found) (c8 .if1 .left) (claims (c .before))
@@ -60,16 +57,14 @@ returns-5 c =
 returns-6 : tie.Need-returns-6
 returns-6 c =
     let c9 = c .before .before .before .before .before .before .before .before .before in
-    let c10 = c9 .before in
-    let a = c10 in
+    let a = c9 .before in
     let short = c9 .if1 .left in
     sym (finish-short (a .args .frame) (a .args .found) short (claims (c .before .before)) (within (c .before)) (c .if6 .taken))
 
 returns-7 : tie.Need-returns-7
 returns-7 c =
     let c9 = c .before .before .before .before .before .before .before .before .before in
-    let c10 = c9 .before in
-    let a = c10 in
+    let a = c9 .before in
     let short = c9 .if1 .left in
     sym (finish-done (a .args .frame) (a .args .found) short (claims (c .before .before)) (within (c .before)) (c .if6 .left))
 

@@ -7,8 +7,7 @@ use Rattle.uslp_writer.proofs.reserved.put_fecf.Tie as tie
 returns : tie.Need-returns
 returns c =
     let c4 = c .before .before .before .before in
-    let c8 = c4 .before .before .before .before in
-    let a = c8 in
+    let a = c4 .before .before .before .before in
     fecf-put (a .args .total) _ (a .args .buf .now) _ (a .pre .0) (a .pre .1) (c4 .checksum .ensures)
     (c .before .before .put-number .ensures)
 

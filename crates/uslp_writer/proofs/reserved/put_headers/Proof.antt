@@ -14,8 +14,9 @@ use Rattle.uslp_writer.proofs.reserved.put_headers.Tie as tie
 -- the first header ends within the buffer
 within : (d : tie.After-write-to-slice) → d .before .before .len-header .result ≤ length (d .write-to-slice .last .1 .0)
 within d =
-    let a = d .before .before .before .before .before .before in
-    let made = d .before .before .before .before .completed-header .ensures in
+    let m = d .before .before .before .before in
+    let a = m .before .before in
+    let made = m .completed-header .ensures in
     omega (
       arith,
       d .before .before .len-header .ensures,
@@ -33,11 +34,11 @@ part-write-to-slice-start c = within (c .before .before)
 returns : tie.Need-returns
 returns c =
     let c3 = c .before .before .before in
-    let c7 = c3 .before .before .before .before in
-    let d = c7 in
-    let a = d .before .before .before .before .before .before in
+    let d = c3 .before .before .before .before in
+    let m = d .before .before .before .before in
+    let a = m .before .before in
     let k = a .args .frame in
-    let made = d .before .before .before .before .completed-header .ensures in
+    let made = m .completed-header .ensures in
     let start : c .data-start .result ≡ dataStart (k .«primary_header») (k .«data_field_header») =
     c .data-start .ensures ∙ ap (λ (h : PrimaryHeader). dataStart h (k .«data_field_header»)) made in (
       start,

@@ -16,8 +16,7 @@ part-put-number-end c =
 returns : tie.Need-returns
 returns c =
     let c5 = c .before .before .before .before .before in
-    let c8 = c5 .before .before .before in
-    let a = c8 in
+    let a = c5 .before .before .before in
     ocf-put (a .args .ocf) _ (a .args .at) (a .args .buf .now) _ (c5 .ocf .given .1) (a .pre)
     (c .before .before .put-number .ensures)
 

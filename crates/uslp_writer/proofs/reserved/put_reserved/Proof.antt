@@ -19,16 +19,14 @@ add-end c =
 put-ocf-requires : tie.Need-put-ocf-requires
 put-ocf-requires c κs =
     let c3 = c .before .before .before in
-    let c6 = c3 .before .before .before in
-    let a = c6 in
+    let a = c3 .before .before .before in
     let p = c3 .put-headers .ensures in
     ocf-in (a .args .frame) (a .args .data-size) _ (a .args .buf .now) (a .pre .0) (a .pre .1) _ _ (p .0) (p .1)
 
 returns : tie.Need-returns
 returns c =
     let c6 = c .before .before .before .before .before .before in
-    let c9 = c6 .before .before .before in
-    let a = c9 in
+    let a = c6 .before .before .before in
     let p = c6 .put-headers .ensures in
     reserved-put (a .args .frame) (a .args .data-size) _ (a .args .buf .now) (a .pre .0) (a .pre .1) _ _ (p .0) (p .1) _ (c .before .before .put-ocf .ensures)
 
