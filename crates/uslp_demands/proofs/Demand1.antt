@@ -14,59 +14,25 @@ use Rattle.uslp_kinds.specs.declared.Refusal.{Refusal}
 use Rattle.uslp_kinds.specs.declared.LengthAnswer.the-variants.{Refused}
 use Rattle.uslp_primary_header.specs.Header.{table, lenHeader, headerChecks, headerWriting, countSetting, lengthSetting}
 use Rattle.uslp_primary_header.specs.declared.PrimaryHeader.{PrimaryHeader}
-use Rattle.uslp_primary_header.proofs as header
 use Rattle.uslp_data_field_header.specs.Field.{fieldTable, lenField, fieldChecks, fieldWriting}
 use Rattle.uslp_data_field_header.specs.declared.TransferFrameDataFieldHeader.{TransferFrameDataFieldHeader}
-use Rattle.uslp_data_field_header.proofs as field
 use Rattle.uslp_layout.specs.Layout.{withFecf}
 use Rattle.uslp_writer.specs.Frame.{total, frameChecks, frameOctets, frameWriting}
 use Rattle.uslp_writer.specs.Reserved.{reservation, reservedOctets, reserving, finishLength, areaIn, filled}
 use Rattle.uslp_writer.specs.declared.TransferFrameCreator.{TransferFrameCreator}
 use Rattle.uslp_writer.specs.declared.TransferFrameCreatorWithReservedData.{TransferFrameCreatorWithReservedData}
 use Rattle.uslp_writer.specs.declared.ReservedAnswer.the-variants as reserved-answer
-use Rattle.uslp_writer.proofs as frame
 use Rattle.uslp_kinds.specs.declared.DoneAnswer.the-variants as done-answer
 use Rattle.uslp_listing.specs.Listing.{listing, room, listingOver}
-use Rattle.uslp_listing.proofs as listings
 use Rattle.uslp_lent.specs.Setting.{headerLeft, headerOff}
 use Rattle.uslp_lent.proofs.setters as setters
-use Rattle.uslp_demands.specs.Promise.{Function, function, Allows}
+use Rattle.uslp_demands.specs.Promise.{Allows}
 use Rattle.uslp_demands.specs.Clause.{Implies}
 use Rattle.uslp_demands.proofs.Facts.{implies}
-
--- the functions, each with its promise
-abbrev fn-write-to-slice : Function
-fn-write-to-slice =
-    function header.PrimaryHeader.write_to_slice.Kinds.ps header.PrimaryHeader.write_to_slice.Kinds.r
-    header.PrimaryHeader.write_to_slice.Reads.Pre header.PrimaryHeader.write_to_slice.Reads.Learnt
-
-abbrev fn-transfer-frame-data-field-header-write-to-slice : Function
-fn-transfer-frame-data-field-header-write-to-slice =
-    function field.TransferFrameDataFieldHeader.write_to_slice.Kinds.ps field.TransferFrameDataFieldHeader.write_to_slice.Kinds.r
-    field.TransferFrameDataFieldHeader.write_to_slice.Reads.Pre field.TransferFrameDataFieldHeader.write_to_slice.Reads.Learnt
-
-abbrev fn-transfer-frame-creator-write-to-slice : Function
-fn-transfer-frame-creator-write-to-slice =
-    function frame.TransferFrameCreator.write_to_slice.Kinds.ps frame.TransferFrameCreator.write_to_slice.Kinds.r
-    frame.TransferFrameCreator.write_to_slice.Reads.Pre frame.TransferFrameCreator.write_to_slice.Reads.Learnt
-
-abbrev fn-new : Function
-fn-new =
-    function frame.TransferFrameCreatorWithReservedData.new.Kinds.ps frame.TransferFrameCreatorWithReservedData.new.Kinds.r
-    frame.TransferFrameCreatorWithReservedData.new.Reads.Pre frame.TransferFrameCreatorWithReservedData.new.Reads.Learnt
-
-abbrev fn-fill : Function
-fn-fill =
-    function frame.TransferFrameCreatorWithReservedData.fill.Kinds.ps frame.TransferFrameCreatorWithReservedData.fill.Kinds.r
-    frame.TransferFrameCreatorWithReservedData.fill.Reads.Pre frame.TransferFrameCreatorWithReservedData.fill.Reads.Learnt
-
-abbrev fn-finish : Function
-fn-finish =
-    function frame.TransferFrameCreatorWithReservedData.finish.Kinds.ps frame.TransferFrameCreatorWithReservedData.finish.Kinds.r
-    frame.TransferFrameCreatorWithReservedData.finish.Reads.Pre frame.TransferFrameCreatorWithReservedData.finish.Reads.Learnt
-
-abbrev fn-list : Function
-fn-list = function listings.list.Kinds.ps listings.list.Kinds.r listings.list.Reads.Pre listings.list.Reads.Learnt
+use Rattle.uslp_demands.proofs.OfPrimaryHeader as of-header
+use Rattle.uslp_demands.proofs.OfDataFieldHeader as of-field
+use Rattle.uslp_demands.proofs.OfWriter.{fn-write-to-slice, fn-new, fn-fill, fn-finish}
+use Rattle.uslp_demands.proofs.OfListing.{fn-list}
 
 -- the last check of a writing: room
 abbrev short : {A : Type 0} → List ℕ → ℕ → List (Bool × Outcome A)
@@ -74,7 +40,7 @@ short s n = (ltb (length s) n, refused 2 (length s ∷ n ∷ [])) ∷ []
 
 module _ (r : Refusal) (s : RefT (List ℕ)) (left : List ℕ) where
   pub header-kept : (κs : Lfts 1) (h : PrimaryHeader)
-      → Allows fn-write-to-slice κs (h, (s, tt)) (Refused r, (tt, (left, tt)))
+      → Allows of-header.fn-write-to-slice κs (h, (s, tt)) (Refused r, (tt, (left, tt)))
       → left ≡ now s
   unfolding headerWriting
   header-kept κs h e =
@@ -82,7 +48,7 @@ module _ (r : Refusal) (s : RefT (List ℕ)) (left : List ℕ) where
       (now s) (sym e)
 
   pub field-kept : (κs : Lfts 1) (f : TransferFrameDataFieldHeader)
-      → Allows fn-transfer-frame-data-field-header-write-to-slice κs (f, (s, tt)) (Refused r, (tt, (left, tt)))
+      → Allows of-field.fn-write-to-slice κs (f, (s, tt)) (Refused r, (tt, (left, tt)))
       → left ≡ now s
   unfolding fieldWriting
   field-kept κs f e =
@@ -90,7 +56,7 @@ module _ (r : Refusal) (s : RefT (List ℕ)) (left : List ℕ) where
       (now s) (sym e)
 
   pub frame-kept : (κs : Lfts 2) (c : TransferFrameCreator) (d : RefT (List ℕ))
-      → Allows fn-transfer-frame-creator-write-to-slice κs (c, (d, (s, tt))) (Refused r, (tt, (tt, (left, tt))))
+      → Allows fn-write-to-slice κs (c, (d, (s, tt))) (Refused r, (tt, (tt, (left, tt))))
       → left ≡ now s
   unfolding frameWriting
   frame-kept κs c d e =

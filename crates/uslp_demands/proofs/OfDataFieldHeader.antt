@@ -55,7 +55,7 @@ fn-from-bytes =
     function field.TransferFrameDataFieldHeader.from_bytes.Kinds.ps field.TransferFrameDataFieldHeader.from_bytes.Kinds.r
     field.TransferFrameDataFieldHeader.from_bytes.Reads.Pre field.TransferFrameDataFieldHeader.from_bytes.Reads.Learnt
 
-abbrev fn-write-to-slice : Function
+abbrev pub fn-write-to-slice : Function
 fn-write-to-slice =
     function field.TransferFrameDataFieldHeader.write_to_slice.Kinds.ps field.TransferFrameDataFieldHeader.write_to_slice.Kinds.r
     field.TransferFrameDataFieldHeader.write_to_slice.Reads.Pre field.TransferFrameDataFieldHeader.write_to_slice.Reads.Learnt

@@ -30,7 +30,7 @@ use Rattle.uslp_roundtrip.specs.Samples.{octetsF, some, readF}
 use Rattle.uslp_demands.proofs.Alike.{alike}
 
 -- the functions, each with its promise
-abbrev fn-hear : Function
+abbrev pub fn-hear : Function
 fn-hear = function hearing.hear.Kinds.ps hearing.hear.Kinds.r hearing.hear.Reads.Pre hearing.hear.Reads.Learnt
 
 abbrev fn-judge : Function

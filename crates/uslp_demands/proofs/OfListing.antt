@@ -18,7 +18,7 @@ use Rattle.uslp_roundtrip.specs.Samples.{octetsF}
 use Rattle.uslp_demands.proofs.Alike.{alike}
 
 -- the functions, each with its promise
-abbrev fn-list : Function
+abbrev pub fn-list : Function
 fn-list = function listing-proofs.list.Kinds.ps listing-proofs.list.Kinds.r listing-proofs.list.Reads.Pre listing-proofs.list.Reads.Learnt
 
 pub list-settles : Settles fn-list

@@ -72,7 +72,7 @@ fn-from-bytes =
     function header.PrimaryHeader.from_bytes.Kinds.ps header.PrimaryHeader.from_bytes.Kinds.r
     header.PrimaryHeader.from_bytes.Reads.Pre header.PrimaryHeader.from_bytes.Reads.Learnt
 
-abbrev fn-write-to-slice : Function
+abbrev pub fn-write-to-slice : Function
 fn-write-to-slice =
     function header.PrimaryHeader.write_to_slice.Kinds.ps header.PrimaryHeader.write_to_slice.Kinds.r
     header.PrimaryHeader.write_to_slice.Reads.Pre header.PrimaryHeader.write_to_slice.Reads.Learnt

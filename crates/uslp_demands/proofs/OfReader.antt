@@ -26,7 +26,7 @@ use Rattle.uslp_roundtrip.specs.Samples.{some, whole, spanning, made, octetsF, 
 use Rattle.uslp_demands.proofs.Alike.{alike}
 
 -- the functions, each with its promise
-abbrev fn-from-bytes : Function
+abbrev pub fn-from-bytes : Function
 fn-from-bytes =
     function reader.TransferFrame.from_bytes.Kinds.ps reader.TransferFrame.from_bytes.Kinds.r
     reader.TransferFrame.from_bytes.Reads.Pre reader.TransferFrame.from_bytes.Reads.Learnt

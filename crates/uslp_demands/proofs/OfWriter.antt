@@ -29,12 +29,12 @@ fn-len-written =
     function frame.TransferFrameCreator.len_written.Kinds.ps frame.TransferFrameCreator.len_written.Kinds.r
     frame.TransferFrameCreator.len_written.Reads.Pre frame.TransferFrameCreator.len_written.Reads.Learnt
 
-abbrev fn-write-to-slice : Function
+abbrev pub fn-write-to-slice : Function
 fn-write-to-slice =
     function frame.TransferFrameCreator.write_to_slice.Kinds.ps frame.TransferFrameCreator.write_to_slice.Kinds.r
     frame.TransferFrameCreator.write_to_slice.Reads.Pre frame.TransferFrameCreator.write_to_slice.Reads.Learnt
 
-abbrev fn-new : Function
+abbrev pub fn-new : Function
 fn-new =
     function frame.TransferFrameCreatorWithReservedData.new.Kinds.ps frame.TransferFrameCreatorWithReservedData.new.Kinds.r
     frame.TransferFrameCreatorWithReservedData.new.Reads.Pre frame.TransferFrameCreatorWithReservedData.new.Reads.Learnt
@@ -54,12 +54,12 @@ fn-data-mut =
     function frame.TransferFrameCreatorWithReservedData.data_mut.Kinds.ps frame.TransferFrameCreatorWithReservedData.data_mut.Kinds.r
     frame.TransferFrameCreatorWithReservedData.data_mut.Reads.Pre frame.TransferFrameCreatorWithReservedData.data_mut.Reads.Learnt
 
-abbrev fn-fill : Function
+abbrev pub fn-fill : Function
 fn-fill =
     function frame.TransferFrameCreatorWithReservedData.fill.Kinds.ps frame.TransferFrameCreatorWithReservedData.fill.Kinds.r
     frame.TransferFrameCreatorWithReservedData.fill.Reads.Pre frame.TransferFrameCreatorWithReservedData.fill.Reads.Learnt
 
-abbrev fn-finish : Function
+abbrev pub fn-finish : Function
 fn-finish =
     function frame.TransferFrameCreatorWithReservedData.finish.Kinds.ps frame.TransferFrameCreatorWithReservedData.finish.Kinds.r
     frame.TransferFrameCreatorWithReservedData.finish.Reads.Pre frame.TransferFrameCreatorWithReservedData.finish.Reads.Learnt

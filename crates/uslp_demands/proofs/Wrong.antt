@@ -14,33 +14,19 @@ use Rattle.uslp_data_field_header.specs.Field.{fieldChecking}
 use Rattle.uslp_writer.specs.declared.TransferFrameCreator.{TransferFrameCreator}
 use Rattle.uslp_writer.proofs.Lengths.{length-long}
 use Rattle.uslp_writer.proofs.Paths.{writing-refused}
-use Rattle.uslp_writer.proofs as frame
 use Rattle.uslp_reader.specs.Reader.{paperFrame}
-use Rattle.uslp_reader.proofs as reader
 use Rattle.uslp_record.specs.Record.{keeping}
 use Rattle.uslp_hearing.specs.Hearing.{paperHear}
-use Rattle.uslp_hearing.proofs as channel-proofs
 use Rattle.uslp_roundtrip.specs.Samples.{plain}
 use Rattle.uslp_roundtrip.specs.Demand as frames
 use Rattle.uslp_roundtrip.proofs.Demand.{reads, writes}
 use Rattle.uslp_counting.specs.History as histories
 use Rattle.uslp_counting.specs.Demand.{Demand3}
 use Rattle.uslp_counting.proofs.Theorem.{counted}
-use Rattle.uslp_demands.specs.Promise.{Function, function, at, Program, Keeps}
-
--- the functions, each with its promise
-abbrev fn-from-bytes : Function
-fn-from-bytes =
-    function reader.TransferFrame.from_bytes.Kinds.ps reader.TransferFrame.from_bytes.Kinds.r
-    reader.TransferFrame.from_bytes.Reads.Pre reader.TransferFrame.from_bytes.Reads.Learnt
-
-abbrev fn-write-to-slice : Function
-fn-write-to-slice =
-    function frame.TransferFrameCreator.write_to_slice.Kinds.ps frame.TransferFrameCreator.write_to_slice.Kinds.r
-    frame.TransferFrameCreator.write_to_slice.Reads.Pre frame.TransferFrameCreator.write_to_slice.Reads.Learnt
-
-abbrev fn-hear : Function
-fn-hear = function channel-proofs.hear.Kinds.ps channel-proofs.hear.Kinds.r channel-proofs.hear.Reads.Pre channel-proofs.hear.Reads.Learnt
+use Rattle.uslp_demands.specs.Promise.{at, Program, Keeps}
+use Rattle.uslp_demands.proofs.OfWriter.{fn-write-to-slice}
+use Rattle.uslp_demands.proofs.OfReader.{fn-from-bytes}
+use Rattle.uslp_demands.proofs.OfHearing.{fn-hear}
 
 -- what a program does, as the demands see it
 abbrev pub readerOf : Program fn-from-bytes → frames.Reader
