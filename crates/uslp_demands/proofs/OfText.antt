@@ -10,41 +10,11 @@ use Rattle.uslp_demands.specs.Promise.{Function, function, at, Allows, S
 use Rattle.uslp_demands.proofs.Alike.{alike}
 
 -- the functions, each with its promise
-abbrev fn-decimal-len : Function
-fn-decimal-len = function text.decimal_len.Kinds.ps text.decimal_len.Kinds.r text.decimal_len.Reads.Pre text.decimal_len.Reads.Learnt
-
-abbrev fn-put-decimal : Function
-fn-put-decimal = function text.put_decimal.Kinds.ps text.put_decimal.Kinds.r text.put_decimal.Reads.Pre text.put_decimal.Reads.Learnt
-
 abbrev fn-put-text : Function
 fn-put-text = function text.put_text.Kinds.ps text.put_text.Kinds.r text.put_text.Reads.Pre text.put_text.Reads.Learnt
 
 abbrev fn-put-number : Function
 fn-put-number = function text.put_number.Kinds.ps text.put_number.Kinds.r text.put_number.Reads.Pre text.put_number.Reads.Learnt
-
-pub decimal-len-settles : Settles fn-decimal-len
-decimal-len-settles = record { total = λ κs a. tt; same = λ κs a x y s t. alike (s ∙ sym t) refl }
-
--- none for 0
-pub decimal-len-zero : Allows fn-decimal-len tt (0, tt) (0, (tt, tt)) → ⊥
-unfolding widthIn
-decimal-len-zero e = omega arith
-
--- one for 10
-pub decimal-len-ten : Allows fn-decimal-len tt (10, tt) (1, (tt, tt)) → ⊥
-unfolding widthIn
-decimal-len-ten e = omega arith
-
-pub put-decimal-settles : Settles fn-put-decimal
-put-decimal-settles = record { total = λ κs a. tt; same = λ κs a x y s t. alike refl (λ i. (tt, ((s ∙ sym t) i, tt))) }
-
--- writes nothing
-pub put-decimal-idle : Allows fn-put-decimal ([], tt) (42, (at (0 ∷ 0 ∷ []), tt)) (tt, (tt, (0 ∷ 0 ∷ [], tt))) → ⊥
-put-decimal-idle e = let z : _≡_ {A = ℕ} 0 52 = cc in omega arith
-
--- the least significant digit first
-pub put-decimal-swapped : Allows fn-put-decimal ([], tt) (42, (at (0 ∷ 0 ∷ []), tt)) (tt, (tt, (50 ∷ 52 ∷ [], tt))) → ⊥
-put-decimal-swapped e = let z : _≡_ {A = ℕ} 50 52 = cc in omega arith
 
 pub put-text-settles : Settles fn-put-text
 put-text-settles = record {

@@ -5,7 +5,7 @@ ghost use lib.ListN.{length};
 ghost use Rattle.uslp_text.specs.Text.{digits, width, decimal, Told};
 
 // How many digits the decimal numeral of a number has.
-pub fn decimal_len(value: u64) -> usize
+fn decimal_len(value: u64) -> usize
     ensures { λ r. ⌜ r ≡ width value ⌝ }
 {
     let mut rest = value;
@@ -18,7 +18,7 @@ pub fn decimal_len(value: u64) -> usize
 }
 
 // Fills `to` with a number's low decimal digits.
-pub fn put_decimal(value: u64, to: &mut [u8])
+fn put_decimal(value: u64, to: &mut [u8])
     ensures { λ _. ⌜ now (to .exit) ≡ digits (length (now (to .entry))) value ⌝ }
 {
     let mut rest = value;
