@@ -11,7 +11,6 @@ use Rattle.uslp_kinds.proofs.Back.{leaving-one}
 use Rattle.uslp_kinds.proofs.Outcomes.{not-done}
 use Rattle.uslp_primary_header.specs.Header.{headerChecking}
 use Rattle.uslp_data_field_header.specs.Field.{fieldChecking}
-use Rattle.uslp_writer.specs.declared.TransferFrameCreator.{TransferFrameCreator}
 use Rattle.uslp_writer.proofs.Lengths.{length-long}
 use Rattle.uslp_writer.proofs.Paths.{writing-refused}
 use Rattle.uslp_reader.specs.Reader.{paperFrame}
