@@ -80,7 +80,7 @@ fn say_group(octets: &[u8]) {
 }
 
 // The number of a refusal, and what it carries.
-pub fn say_refusal(refusal: Refusal) {
+pub(crate) fn say_refusal(refusal: Refusal) {
     say_number(refusal.number() as u64);
     match refusal {
         Refusal::ShortSource { found, expected } => say_two(found as u64, expected as u64),
@@ -97,7 +97,7 @@ pub fn say_refusal(refusal: Refusal) {
 }
 
 // How many octets were written, and the whole buffer.
-pub fn say_written(answer: LengthAnswer, buf: &[u8]) {
+pub(crate) fn say_written(answer: LengthAnswer, buf: &[u8]) {
     match answer {
         LengthAnswer::Done(n) => {
             say_zero();

@@ -34,7 +34,7 @@ pub(crate) fn begin(register: u16, message: &[u8], head: usize) -> Wide
 }
 
 // The word at the top moves to x^192, to x^80, which lies across two words, and to 1.
-pub fn take_word(wide: Wide, word: u64) -> Wide
+pub(crate) fn take_word(wide: Wide, word: u64) -> Wide
     ensures { λ r. ⌜ standsFor r ≡ fed (standsFor wide) word ⌝ }
 {
     let top = wide.a;
@@ -47,7 +47,7 @@ pub fn take_word(wide: Wide, word: u64) -> Wide
 }
 
 // One word in place of two, by P^4 = x^64 + x^48 + x^20 + 1.
-pub fn join(high: u64, low: u64) -> u64
+pub(crate) fn join(high: u64, low: u64) -> u64
     ensures { λ r. ⌜ fed 0 r ≡ fed (fed 0 high) low ⌝ }
 {
     let q = quotient(high);
@@ -64,7 +64,7 @@ fn quotient(high: u64) -> u64
 }
 
 // The register that a word leads to: the remainder by P, whose quotient q is found in the same way, by P^4, P^2 and P in turn.
-pub fn narrow(word: u64) -> u16
+pub(crate) fn narrow(word: u64) -> u16
     ensures { λ r. ⌜ r ≡ fed 0 word ⌝ }
 {
     let fourth = quotient(word);

@@ -16,7 +16,7 @@ ghost use Rattle.uslp_data_field_header.specs.Field.{paperField};
 ghost use Rattle.uslp_reader.specs.Reader.{paperFrame, frameReading, contentsRead, contentsReadAt};
 ghost use Rattle.uslp_lent.specs.Kept.{ofFrame, paperId, paperRole, paperOcf};
 
-pub fn find(buf: &[u8], has_fecf: bool) -> FrameFound
+pub(crate) fn find(buf: &[u8], has_fecf: bool) -> FrameFound
     ensures { λ r. ⌜ paperFrame (r .answer) ≡ frameReading (now (buf .entry)) «has_fecf» ⌝ }
 {
     FrameFound {
@@ -24,19 +24,19 @@ pub fn find(buf: &[u8], has_fecf: bool) -> FrameFound
     }
 }
 
-pub fn answer(raw: &[u8], found: FrameFound) -> FrameAnswer
+pub(crate) fn answer(raw: &[u8], found: FrameFound) -> FrameAnswer
     ensures { λ r. ⌜ r ≡ found .answer ⌝ }
 {
     found.answer
 }
 
-pub fn raw_frame(raw: &[u8], found: FrameFound) -> &[u8]
+pub(crate) fn raw_frame(raw: &[u8], found: FrameFound) -> &[u8]
     ensures { λ r. ⌜ r ≡ raw .entry ⌝ }
 {
     raw
 }
 
-pub fn data(raw: &[u8], found: FrameFound) -> &[u8]
+pub(crate) fn data(raw: &[u8], found: FrameFound) -> &[u8]
     ensures { λ r. ⌜
         PartOf (raw .entry)
         (contentsReadAt (paperFrame (found .answer)) (now (raw .entry)))
@@ -48,7 +48,7 @@ pub fn data(raw: &[u8], found: FrameFound) -> &[u8]
     uslp_reader::data_of(answer, raw)
 }
 
-pub fn len_frame(raw: &[u8], found: FrameFound) -> LengthAnswer
+pub(crate) fn len_frame(raw: &[u8], found: FrameFound) -> LengthAnswer
     ensures { λ r. ⌜ paperLength r ≡ ofFrame (λ x. lenFrame (x .«primary_header»)) (paperFrame (found .answer)) ⌝ }
 {
     let answer = found.answer;
@@ -58,7 +58,7 @@ pub fn len_frame(raw: &[u8], found: FrameFound) -> LengthAnswer
     }
 }
 
-pub fn primary_header(raw: &[u8], found: FrameFound) -> HeaderAnswer
+pub(crate) fn primary_header(raw: &[u8], found: FrameFound) -> HeaderAnswer
     ensures { λ r. ⌜ paperHeader r ≡ ofFrame (λ x. x .«primary_header») (paperFrame (found .answer)) ⌝ }
 {
     let answer = found.answer;
@@ -68,7 +68,7 @@ pub fn primary_header(raw: &[u8], found: FrameFound) -> HeaderAnswer
     }
 }
 
-pub fn data_field_header(raw: &[u8], found: FrameFound) -> DataFieldHeaderAnswer
+pub(crate) fn data_field_header(raw: &[u8], found: FrameFound) -> DataFieldHeaderAnswer
     ensures { λ r. ⌜ paperField r ≡ ofFrame (λ x. x .«data_field_header») (paperFrame (found .answer)) ⌝ }
 {
     let answer = found.answer;
@@ -78,7 +78,7 @@ pub fn data_field_header(raw: &[u8], found: FrameFound) -> DataFieldHeaderAnswer
     }
 }
 
-pub fn operational_control_field(raw: &[u8], found: FrameFound) -> OcfAnswer
+pub(crate) fn operational_control_field(raw: &[u8], found: FrameFound) -> OcfAnswer
     ensures { λ r. ⌜ paperOcf r ≡ ofFrame (λ x. x .«operational_control_field») (paperFrame (found .answer)) ⌝ }
 {
     let answer = found.answer;
@@ -88,7 +88,7 @@ pub fn operational_control_field(raw: &[u8], found: FrameFound) -> OcfAnswer
     }
 }
 
-pub fn vc_id(raw: &[u8], found: FrameFound) -> IdAnswer
+pub(crate) fn vc_id(raw: &[u8], found: FrameFound) -> IdAnswer
     ensures { λ r. ⌜ paperId r ≡ ofFrame (λ x. x .«primary_header» .«vc_id») (paperFrame (found .answer)) ⌝ }
 {
     let answer = found.answer;
@@ -98,7 +98,7 @@ pub fn vc_id(raw: &[u8], found: FrameFound) -> IdAnswer
     }
 }
 
-pub fn map_id(raw: &[u8], found: FrameFound) -> IdAnswer
+pub(crate) fn map_id(raw: &[u8], found: FrameFound) -> IdAnswer
     ensures { λ r. ⌜ paperId r ≡ ofFrame (λ x. x .«primary_header» .«map_id») (paperFrame (found .answer)) ⌝ }
 {
     let answer = found.answer;
@@ -108,7 +108,7 @@ pub fn map_id(raw: &[u8], found: FrameFound) -> IdAnswer
     }
 }
 
-pub fn spacecraft_id(raw: &[u8], found: FrameFound) -> IdAnswer
+pub(crate) fn spacecraft_id(raw: &[u8], found: FrameFound) -> IdAnswer
     ensures { λ r. ⌜ paperId r ≡ ofFrame (λ x. x .«primary_header» .«spacecraft_id») (paperFrame (found .answer)) ⌝ }
 {
     let answer = found.answer;
@@ -118,7 +118,7 @@ pub fn spacecraft_id(raw: &[u8], found: FrameFound) -> IdAnswer
     }
 }
 
-pub fn source_or_dest_field(raw: &[u8], found: FrameFound) -> RoleAnswer
+pub(crate) fn source_or_dest_field(raw: &[u8], found: FrameFound) -> RoleAnswer
     ensures { λ r. ⌜ paperRole r ≡ ofFrame (λ x. x .«primary_header» .«source_or_dest_field») (paperFrame (found .answer)) ⌝ }
 {
     let answer = found.answer;

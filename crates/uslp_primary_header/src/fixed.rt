@@ -27,7 +27,7 @@ const COMMAND: u64 = 1 << 6;
 
 const OCF: u64 = 1 << 3;
 
-pub fn fixed_of(header: PrimaryHeader) -> u64
+pub(crate) fn fixed_of(header: PrimaryHeader) -> u64
     ensures { λ r. ⌜ r ≡ valueOf (fixedTable 0 header) ⌝ }
 {
     let role = header.source_or_dest_field;
@@ -65,7 +65,7 @@ fn joined(header: PrimaryHeader, role: u8, bypass: u8, command: u8, ocf: u8) -> 
 }
 
 // The header that these octets and this count make.
-pub fn header_of(fixed: u64, count: u64) -> PrimaryHeader
+pub(crate) fn header_of(fixed: u64, count: u64) -> PrimaryHeader
     ensures { λ r. ⌜ r ≡ headerOf (split format fixed) count ⌝ }
 {
     PrimaryHeader {
@@ -84,7 +84,7 @@ pub fn header_of(fixed: u64, count: u64) -> PrimaryHeader
     }
 }
 
-pub fn bit_of(set: bool) -> u8
+pub(crate) fn bit_of(set: bool) -> u8
     ensures { λ r. ⌜ r ≡ flag set ⌝ }
 {
     if set { 1 } else { 0 }

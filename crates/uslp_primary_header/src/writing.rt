@@ -48,7 +48,7 @@ impl PrimaryHeader {
 }
 
 // A count must be below 256 to the power of its width.
-pub fn count_bad(width: u8, count: u64) -> bool
+pub(crate) fn count_bad(width: u8, count: u64) -> bool
     ensures { λ r. ⌜ r ≡ countBad width count ⌝ }
 {
     if width > MAX_COUNT_LEN {
