@@ -9,21 +9,6 @@ use Rattle.uslp_timing.specs.Timing.{told, numbersFound}
 use Rattle.uslp_timing.proofs.uslp_timing_read.Statement.{statement}
 use Rattle.uslp_timing.proofs.uslp_timing_read.Tie as tie
 
-from-bytes-requires : tie.Need-from-bytes-requires
-from-bytes-requires c κs = search needs
-
-enum-known-frame : tie.Need-enum-known-frame
-enum-known-frame c = search needs
-
-numbers-of-requires : tie.Need-numbers-of-requires
-numbers-of-requires c κs = search needs
-
-enum-known-refusal : tie.Need-enum-known-refusal
-enum-known-refusal c = search needs
-
-number-requires : tie.Need-number-requires
-number-requires c κs = search needs
-
 returns : tie.Need-returns
 returns c =
     let d = c .before .before .before .before in
@@ -42,10 +27,10 @@ pub uslp-timing-read-spec : {M : Type 1} → statement M
 uslp-timing-read-spec =
     tie.close
     (tie.spec
-    from-bytes-requires
-    enum-known-frame
-    numbers-of-requires
-    enum-known-refusal
-    number-requires
+    (λ c κs. search needs)
+    (λ c. search needs)
+    (λ c κs. search needs)
+    (λ c. search needs)
+    (λ c κs. search needs)
     returns
     returns-2)

@@ -24,28 +24,10 @@ left d e =
     ∙ sym (d .write-to-slice .ensures)
     ∙ ap (λ (x : LengthAnswer). leaving (paperLength x) (d .write-to-slice .last .1 .1 .0)) e
 
-frame-with-requires : tie.Need-frame-with-requires
-frame-with-requires c κs = search needs
-
-write-to-slice-requires : tie.Need-write-to-slice-requires
-write-to-slice-requires c κs = search needs
-
-enum-known-total : tie.Need-enum-known-total
-enum-known-total c = search needs
-
-enum-known-refusal : tie.Need-enum-known-refusal
-enum-known-refusal c = search needs
-
-same-length : tie.Need-same-length
-same-length c = search needs
-
 returns : tie.Need-returns
 returns c =
     let e = left (c .before .before .before .before .before) (c .before .total .given .1) in
     (sym (ap lengthTold e), sym (ap octetsLeft e))
-
-same-length-2 : tie.Need-same-length-2
-same-length-2 c = search needs
 
 returns-2 : tie.Need-returns-2
 returns-2 c =
@@ -56,11 +38,11 @@ pub uslp-timing-write-spec : {M : Type 1} → statement M
 uslp-timing-write-spec =
     tie.close
     (tie.spec
-    frame-with-requires
-    write-to-slice-requires
-    enum-known-total
-    enum-known-refusal
-    same-length
+    (λ c κs. search needs)
+    (λ c κs. search needs)
+    (λ c. search needs)
+    (λ c. search needs)
+    (λ c. search needs)
     returns
-    same-length-2
+    (λ c. search needs)
     returns-2)
