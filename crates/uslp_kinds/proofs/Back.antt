@@ -9,7 +9,7 @@ use Rattle.uslp_kinds.specs.Kinds.{ruleOf}
 use Rattle.uslp_kinds.specs.Answers.{refusalNumber, carried, paperDone, paperLength, paperProtocol}
 use Rattle.uslp_kinds.proofs.Cases.{rule-back}
 use Rattle.uslp_kinds.specs.declared.Refusal.{Refusal}
-use Rattle.uslp_kinds.specs.declared.Refusal.the-variants.{ShortSource, ShortTarget, Truncated, BadVersion, BadProtocol, BadChecksum, FrameTooShort, BadCount, BadPointer, BadField, OcfMissing, TooLong, NotOpen, OtherWidth, AlreadyOpen, TableFull, TotalFull}
+use Rattle.uslp_kinds.specs.declared.Refusal.the-variants.{ShortSource, ShortTarget, Truncated, BadVersion, BadProtocol, BadChecksum, FrameTooShort, BadCount, BadPointer, BadField, OcfMissing, TooLong, NotOpen, OtherWidth, AlreadyOpen, TableFull, TotalFull, BadForm}
 use Rattle.uslp_kinds.specs.declared.DoneAnswer.{DoneAnswer}
 use Rattle.uslp_kinds.specs.declared.DoneAnswer.the-variants as done-answer
 use Rattle.uslp_kinds.specs.declared.LengthAnswer.{LengthAnswer}
@@ -20,7 +20,8 @@ use Rattle.uslp_kinds.specs.declared.ProtocolIdAnswer.the-variants as pr
 -- the refusals by number, those that carry nothing, one value and two
 abbrev bare : List (ℕ × Refusal)
 bare =
-    (3, Truncated) ∷ (10, BadField) ∷ (11, OcfMissing) ∷ (12, TooLong) ∷ (13, NotOpen) ∷ (15, AlreadyOpen) ∷ (16, TableFull) ∷ (17, TotalFull) ∷ []
+    (3, Truncated) ∷ (10, BadField) ∷ (11, OcfMissing) ∷ (12, TooLong) ∷ (13, NotOpen) ∷ (15, AlreadyOpen) ∷ (16, TableFull) ∷ (17, TotalFull)
+    ∷ (18, BadForm) ∷ []
 
 abbrev single : ℕ → List (ℕ × Refusal)
 single a = (4, BadVersion a) ∷ (5, BadProtocol a) ∷ (6, BadChecksum a) ∷ (9, BadPointer (ruleOf a)) ∷ []
@@ -56,6 +57,7 @@ refusal-back (OtherWidth a b) = refl
 refusal-back AlreadyOpen = refl
 refusal-back TableFull = refl
 refusal-back TotalFull = refl
+refusal-back BadForm = refl
 
 -- the way back for an answer with the two constructors `Done` and `Refused`
 abbrev pub back : {A E : Type 0} → (A → E) → (Refusal → E) → Outcome A → E

@@ -82,6 +82,7 @@ pub enum Refusal {
     AlreadyOpen,
     TableFull,
     TotalFull,
+    BadForm,
 }
 
 // For a call that only leaves something changed.
@@ -136,6 +137,7 @@ impl Refusal {
             Refusal::AlreadyOpen => 15,
             Refusal::TableFull => 16,
             Refusal::TotalFull => 17,
+            Refusal::BadForm => 18,
         }
     }
 }
