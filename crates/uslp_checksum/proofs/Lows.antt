@@ -3,7 +3,7 @@ use mathlib.Core.Path.{_≡_, refl, sym, ap, ap₂, _∙_}
 use mathlib.Core.List.{List, _∷_, _++_}
 use mathlib.Core.Bool.{Bool}
 use Prim.Native.Nat.{ℕ, zero, suc, _+_, _*_, _/_, _%_, _^_, _≤_, _<_}
-use native.Mathlib.Nat.{add-comm, add-assoc, add-zero, mul-assoc, pow-suc, zero-add, suc-add, add-suc, zero-div, div-one, div-eq-of-lt, mul-mod-left}
+use native.Mathlib.Nat.{add-comm, add-zero, zero-add, suc-add, add-suc, zero-div, div-one, div-eq-of-lt, mul-mod-left}
 use native.Mathlib.Numerals.{add-one}
 use native.Mathlib.Omega.{arith}
 use lib.ListN.{length, take, getD}
@@ -78,14 +78,6 @@ feed-shifted k s r n =
     feed-split k s r (n * 2 ^ s)
     ∙ ap₂ (λ (x : ℕ) (l : List Bool). feed (feed r (lows k x)) l) (shl-shr n s)
     (sym (lows-mod 0 s (n * 2 ^ s)) ∙ ap (lows s) (ap (λ (i : ℕ). n * 2 ^ s % 2 ^ i) (zero-add s) ∙ mul-mod-left n (2 ^ s)))
-
--- a number in two parts
-pub word-parts : (m : List ℕ) (i j k : ℕ) → word i (j + k) m ≡ word i j m * 256 ^ k + word (i + j) k m
-word-parts m i j zero = ap (λ (x : ℕ). word i x m) (add-zero j) ∙ omega arith
-word-parts m i j (suc k) =
-    ap (λ (x : ℕ). word i x m) (add-suc j k)
-    ∙ ap₂ (λ (x y : ℕ). x * 256 + getD m y 0) (word-parts m i j k) (sym (add-assoc i j k))
-    ∙ omega (arith, mul-assoc (word i j m) (256 ^ k) 256, ap (λ (x : ℕ). word i j m * x) (pow-suc 256 k))
 
 -- k octets more of a message, as one number
 module _ (m : List ℕ) (oct : AreOctets m) (i : ℕ) where

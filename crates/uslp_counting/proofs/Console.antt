@@ -2,15 +2,14 @@
 use mathlib.Core.Path.{_≡_, refl, sym, ap, _∙_}
 use mathlib.Core.Bool.{true, false}
 use mathlib.Core.List.{List, [], _∷_, _++_}
-use Prim.Native.Nat.{ℕ, suc, _+_, _<_, _≤_}
+use Prim.Native.Nat.{ℕ, suc, _+_, _<_}
 use native.Mathlib.Omega.{arith}
 use native.Mathlib.Decide.{decLt}
 use native.Mathlib.Nat.{zero-add, add-zero}
-use borrow.Author.Tests.{le-ltb}
 use lib.ListN.{length, getD}
 use Rattle.uslp_kinds.specs.Outcome.{done}
 use Rattle.uslp_record.specs.Slots.{stateHolds, holds, find, slotOf, stateAt, emptyRecord}
-use Rattle.uslp_record.specs.Record.{most, missingOf, missingIn, tooMuchIn, consoleTotal}
+use Rattle.uslp_record.specs.Record.{missingOf, missingIn, tooMuchIn, consoleTotal}
 use Rattle.uslp_record.specs.declared.Channel.{Channel}
 use Rattle.uslp_record.specs.declared.SlotState.{SlotState}
 use Rattle.uslp_record.specs.declared.SlotState.the-variants.{Closed, Opened, Heard}
@@ -19,10 +18,10 @@ use Rattle.uslp_record.specs.declared.ChannelRecord.{ChannelRecord}
 use Rattle.uslp_record.proofs.Seek.{finds}
 use Rattle.uslp_counting.specs.History.{missingFor, called, run, Call}
 use Rattle.uslp_counting.specs.History.Call.{hears, opens, closes}
-use Rattle.uslp_record.specs.Made.{Distinct, Sound, Made}
+use Rattle.uslp_record.specs.Made.{Distinct, Made}
 use Rattle.uslp_counting.specs.Console.{channelIn, openIn, sumOver, missingOverOpen, Given, GivenAll}
 use Rattle.uslp_record.proofs.Slots.{true-false, same-self, seek-passes, seek-none}
-use Rattle.uslp_record.proofs.Keeps.{made-empty, made-opening, made-closing}
+use Rattle.uslp_record.proofs.Keeps.{total-fits, made-empty, made-opening, made-closing}
 use Rattle.uslp_hearing.specs.Hearing.{frameHearing}
 use Rattle.uslp_hearing.proofs.Ways.{made-hearing}
 
@@ -66,32 +65,21 @@ module _ (r : ChannelRecord) (long : length (r .slots) ≡ 8) (once : Distinct r
   unfolding consoleTotal
   console-counts e = rw e (ap done console-sum)
 
--- no slot of a record that calls made misses more than the largest total
-sound-missing : (t : SlotState) → Sound t → missingOf t ≤ most
-sound-missing Closed s = omega arith
-sound-missing (Opened k w) s = omega arith
-sound-missing (Heard k w t) s = s .1 .missing
-
-none-too-much : (l : List Slot) → ((j : ℕ) → missingOf (getD l j (slotOf Closed) .state) ≤ most) → tooMuchIn l ≡ false
-unfolding tooMuchIn
-none-too-much [] h = refl
-none-too-much (x ∷ l) h = rw (le-ltb most (missingOf (x .state)) (h 0)) (none-too-much l (λ j. h (suc j)))
-
 -- so asking for the total of such a record is done, and gives the sum
 pub console-made : (r : ChannelRecord) → Made r → consoleTotal r ≡ done (missingOverOpen r)
-console-made r made = console-counts r (made .eight) (made .once) (none-too-much (r .slots) (λ j. sound-missing (stateAt r j) (made .sound j)))
+console-made r made = console-counts r (made .eight) (made .once) (total-fits r made)
 
 -- every call keeps it, and so does every history from the empty record
 module _ (K : Channel) where
-  pub made-called : (r : ChannelRecord) → Made r → (c : Call) → Given c → Made (called frameHearing K r c .1)
-  made-called r made (hears s fecf) given = made-hearing r made s fecf given
-  made-called r made (opens k w) given = made-opening r made k w given
-  made-called r made (closes k) given = made-closing r made k
+  pub made-call : (r : ChannelRecord) → Made r → (c : Call) → Given c → Made (called frameHearing K r c .1)
+  made-call r made (hears s fecf) given = made-hearing r made s fecf given
+  made-call r made (opens k w) given = made-opening r made k w given
+  made-call r made (closes k) given = made-closing r made k
 
   made-from : (cs : List Call) (r : ChannelRecord) → Made r → GivenAll cs → Made (run frameHearing K r cs)
   unfolding run
   made-from [] r made given = made
-  made-from (c ∷ cs) r made given = made-from cs (called frameHearing K r c .1) (made-called r made c (given .0)) (given .1)
+  made-from (c ∷ cs) r made given = made-from cs (called frameHearing K r c .1) (made-call r made c (given .0)) (given .1)
 
   pub made-run : (cs : List Call) → GivenAll cs → Made (run frameHearing K emptyRecord cs)
   made-run cs = made-from cs emptyRecord made-empty

@@ -1,12 +1,12 @@
 -- Laws of numbers and rows of fields as octets, for any width, length and table.
-use mathlib.Core.Path.{_≡_, refl, ap, sym, _∙_}
+use mathlib.Core.Path.{_≡_, refl, ap, ap₂, sym, _∙_, subst}
 use Prim.Native.Nat.{ℕ, zero, suc, _+_, _*_, _/_, _%_, _^_, _-_, _<_, _≤_}
 use mathlib.Core.List.{List, [], _∷_, _++_, append-nil}
 use Prim.Native.String.{String}
 use native.Mathlib.Omega.{arith}
 use native.Mathlib.Numerals.{add-one}
-use native.Mathlib.Nat.{mul-suc, pow-suc, mul-add-div-right, div-div-eq-div-mul, suc-add, zero-add, mul-assoc, one-le-pow, div-eq-of-lt, mul-comm, add-comm, add-mul, add-zero, add-assoc, sub-zero, le-refl, div-one, pow-zero, mod-eq-of-lt, pow-le-pow-right}
-use lib.Pow.{pow-add, mod-pow-add, high, low}
+use native.Mathlib.Nat.{mul-suc, pow-suc, mul-add-div-right, div-div-eq-div-mul, suc-add, zero-add, mul-assoc, one-le-pow, div-eq-of-lt, mul-comm, add-comm, add-mul, add-zero, add-assoc, sub-zero, le-refl, div-one, pow-zero, mod-eq-of-lt, mod-lt, add-suc, add-mul-mod-self-right, pow-le-pow-right}
+use lib.Pow.{pow-add, pow-pos, mod-pow-add, high, low}
 use lib.Arith.{digits-lt}
 use lib.Dec.{lit<}
 use lib.ListN.{length, take, drop, getD, set, length-drop, List·getD-append}
@@ -78,7 +78,7 @@ pub value-lt : (fs : List Field) → Fits fs → valueOf fs < 2 ^ bitsIn fs
 value-lt [] h = lit< tt
 value-lt (f ∷ fs) h = rw (pow-add 2 (f .1) (bitsIn fs)) (digits-lt (h .0) (value-lt fs (h .1)))
 
-field-eq : {name : String} {w a b : ℕ} {fs gs : List Field} → a ≡ b → fs ≡ gs → (name, w, a) ∷ fs ≡ (name, w, b) ∷ gs
+pub field-eq : {name : String} {w a b : ℕ} {fs gs : List Field} → a ≡ b → fs ≡ gs → (name, w, a) ∷ fs ≡ (name, w, b) ∷ gs
 field-eq p q = cc
 
 split-value : (fs : List Field) (q : ℕ) → Fits fs → split fs (q * 2 ^ bitsIn fs + valueOf fs) ≡ fs
@@ -100,6 +100,20 @@ value-split : (fs : List Field) (n : ℕ) → valueOf (split fs n) ≡ n % 2 ^ b
 value-split [] n = omega arith
 value-split (f ∷ fs) n = rw (bits-split fs n, value-split fs n) (sym (mod-pow-add n (f .1) (bitsIn fs)))
 
+-- the row that a number was split into fits
+pub split-fits : (fs : List Field) (n : ℕ) → Fits (split fs n)
+split-fits [] n = tt
+split-fits (f ∷ fs) n = (mod-lt (n / 2 ^ bitsIn fs) (pow-pos (f .1)), split-fits fs n)
+
+-- what stands above a row does not matter to it
+split-low : (fs : List Field) (q r : ℕ) → split fs (q * 2 ^ bitsIn fs + r) ≡ split fs r
+split-low [] q r = refl
+split-low (f ∷ fs) q r =
+    let e : q * 2 ^ (f .1 + bitsIn fs) + r ≡ q * 2 ^ f .1 * 2 ^ bitsIn fs + r = rw (pow-add, mul-assoc) in
+    let d : (q * 2 ^ f .1 * 2 ^ bitsIn fs + r) / 2 ^ bitsIn fs % 2 ^ f .1 ≡ r / 2 ^ bitsIn fs % 2 ^ f .1 =
+    ap (λ (y : ℕ). y % 2 ^ f .1) (mul-add-div-right (pow-pos (bitsIn fs)) (q * 2 ^ f .1) r ∙ add-comm _ _) ∙ add-mul-mod-self-right _ _ _ in
+    rw e (field-eq d (split-low fs (q * 2 ^ f .1) r))
+
 -- the number of w octets that stand behind p: the first k of them make its high part, all of them the number
 module _ (p t : List ℕ) (w n : ℕ) (fits : n < 256 ^ w) where
   word-high : (k : ℕ) → k ≤ w → word (length p) k (p ++ (octets w n ++ t)) ≡ n / 256 ^ (w - k)
@@ -116,6 +130,14 @@ module _ (p t : List ℕ) (w n : ℕ) (fits : n < 256 ^ w) where
   word-octets =
       let z : w - w ≡ 0 = omega arith in
       word-high w (le-refl w) ∙ ap (λ (j : ℕ). n / 256 ^ j) z ∙ div-one n
+
+-- a number in two parts
+pub word-parts : (m : List ℕ) (i j k : ℕ) → word i (j + k) m ≡ word i j m * 256 ^ k + word (i + j) k m
+word-parts m i j zero = ap (λ (x : ℕ). word i x m) (add-zero j) ∙ omega arith
+word-parts m i j (suc k) =
+    ap (λ (x : ℕ). word i x m) (add-suc j k)
+    ∙ ap₂ (λ (x y : ℕ). x * 256 + getD m y 0) (word-parts m i j k) (sym (add-assoc i j k))
+    ∙ omega (arith, mul-assoc (word i j m) (256 ^ k) 256, ap (λ (x : ℕ). word i j m * x) (pow-suc 256 k))
 
 -- the octets of a word are the octets that it was read from
 module _ (s : List ℕ) (i : ℕ) (oct : AreOctets s) where
@@ -159,6 +181,10 @@ module _ (fs : List Field) (k : ℕ) (whole : bitsIn fs ≡ 8 * k) where
   pack-unpack s oct h =
       rw (bits-split, value-split, power, eighth, mod-eq-of-lt (word-lt s 0 oct k)) (octets-word s 0 oct k (omega arith))
 
+-- what is left of octets is octets
+pub are-drop : (n : ℕ) (s : List ℕ) → AreOctets s → AreOctets (drop n s)
+are-drop n s oct i = subst (λ (x : ℕ). x < 256) (sym (getD-drop n s i 0)) (oct (n + i))
+
 -- a word of a part of the octets stands in the whole of them
 pub word-drop : (i j n : ℕ) (s : List ℕ) → word j n (drop i s) ≡ word (i + j) n s
 word-drop i j zero s = refl
@@ -174,6 +200,27 @@ word-part i w s h =
     let z : i + w - i ≡ w = omega arith in
     rw (z, length-take-le w (drop i s) (omega (arith, length-drop i s)))
     (word-take 0 w w (drop i s) (omega arith) ∙ word-drop i 0 w s ∙ ap (λ (m : ℕ). word m w s) (add-zero i))
+
+-- a field of k octets before a row of m
+module _ (name : String) (k v m : ℕ) (fs : List Field) (whole : bitsIn fs ≡ 8 * m) where
+  both : (8 * k + bitsIn fs) / 8 ≡ k + m
+  both = omega arith
+
+  pub pack-cons : Fits fs → pack ((name, 8 * k, v) ∷ fs) ≡ octets k v ++ pack fs
+  pack-cons h =
+      let small : valueOf fs < 256 ^ m = rw (power fs m whole) at (value-lt fs h) in
+      rw (both, eighth fs m whole, power fs m whole) (octets-append k m v (valueOf fs) small)
+
+  pub unpack-cons : (s : List ℕ) → AreOctets s → unpack ((name, 8 * k, v) ∷ fs) s ≡ (name, 8 * k, word 0 k s) ∷ unpack fs (drop k s)
+  unpack-cons s oct =
+      let low : word k m s < 2 ^ bitsIn fs = rw (power fs m whole) (word-lt s k oct m) in
+      let all : word 0 (k + m) s ≡ word 0 k s * 2 ^ bitsIn fs + word k m s =
+      rw (power fs m whole) (word-parts s 0 k m ∙ ap (λ (j : ℕ). word 0 k s * 256 ^ m + word j m s) (zero-add k)) in
+      let rest : word k m s ≡ word 0 m (drop k s) = sym (word-drop k 0 m s ∙ ap (λ (j : ℕ). word j m s) (add-zero k)) in
+      rw (both, all)
+      (field-eq
+      (ap (λ (y : ℕ). y % 2 ^ (8 * k)) (high (word 0 k s) (bitsIn fs) low) ∙ mod-eq-of-lt (rw (pow-eight k) (word-lt s 0 oct k)))
+      (split-low fs (word 0 k s) (word k m s) ∙ ap (split fs) (rest ∙ ap (λ (j : ℕ). word 0 j (drop k s)) (sym (eighth fs m whole)))))
 
 -- a run of cells filled from the end, whatever the cells: one more in front, all of them, none of them
 module _ (run : ℕ → List ℕ) (cell : ℕ → ℕ) (more : (k : ℕ) → run (suc k) ≡ cell k ∷ run k) (d : List ℕ) where

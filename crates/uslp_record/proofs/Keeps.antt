@@ -1,14 +1,15 @@
 -- Every call on the record keeps what holds of records that calls made.
 use mathlib.Core.Path.{_≡_, refl, sym, _∙_, ap, subst}
 use mathlib.Core.Bool.{Bool, true, false, _||_}
-use Prim.Native.Nat.{ℕ, _^_, _<_}
+use mathlib.Core.List.{List, [], _∷_}
+use Prim.Native.Nat.{ℕ, suc, _^_, _<_, _≤_}
 use native.Mathlib.Omega.{arith}
 use native.Mathlib.Decide.{ℕ-discrete, decLt}
-use borrow.Author.Tests.{ltb-false}
+use borrow.Author.Tests.{ltb-false, le-ltb}
 use lib.Dec.{eqb, ltb}
-use lib.ListN.{length-set, getD-replicate, List·getD-eq-default, length-replicate}
+use lib.ListN.{getD, length-set, getD-replicate, List·getD-eq-default, length-replicate}
 use Rattle.uslp_record.specs.Slots.{stateHolds, holds, find, vacant, slotOf, stateAt, put, emptyRecord}
-use Rattle.uslp_record.specs.Record.{Kept, keeping, opening, closing}
+use Rattle.uslp_record.specs.Record.{Kept, keeping, opening, closing, most, missingOf, tooMuchIn}
 use Rattle.uslp_record.specs.Judging.{ahead, arrivalOf, totalsAfter, firstTotals, overfull, totalsAt, widthAt}
 use Rattle.uslp_record.specs.Made.{Distinct, Openable, Tallied, Sound, Made}
 use Rattle.uslp_record.specs.declared.Channel.{Channel}
@@ -143,3 +144,17 @@ made-empty = record {
   once = λ k i j hi hj x y. absurd (true-false x (ap (stateHolds k) (closed-empty i)));
   sound = λ i. subst Sound (sym (closed-empty i)) tt;
 }
+
+-- no slot of a record that calls made misses more than the largest total
+sound-missing : (t : SlotState) → Sound t → missingOf t ≤ most
+sound-missing Closed s = omega arith
+sound-missing (Opened k w) s = omega arith
+sound-missing (Heard k w t) s = s .1 .missing
+
+none-too-much : (l : List Slot) → ((j : ℕ) → missingOf (getD l j (slotOf Closed) .state) ≤ most) → tooMuchIn l ≡ false
+unfolding tooMuchIn
+none-too-much [] h = refl
+none-too-much (x ∷ l) h = rw (le-ltb most (missingOf (x .state)) (h 0)) (none-too-much l (λ j. h (suc j)))
+
+pub total-fits : (r : ChannelRecord) → Made r → tooMuchIn (r .slots) ≡ false
+total-fits r made = none-too-much (r .slots) (λ j. sound-missing (stateAt r j) (made .sound j))

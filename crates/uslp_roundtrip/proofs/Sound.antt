@@ -7,10 +7,10 @@ use native.Mathlib.Nat.{mod-lt}
 use native.Mathlib.Omega.{arith}
 use native.Mathlib.Decide.{decLt}
 use lib.ListN.{length, take, drop, length-take, length-drop, List·getD-eq-default}
-use lib.Seq.{take-add, take-take, getD-take, getD-drop, length-take-le}
+use lib.Seq.{take-add, take-take, getD-take, length-take-le}
 use lib.Dec.{lit<}
 use Rattle.uslp_octets.specs.Octets.{AreOctets, octets, word}
-use Rattle.uslp_octets.proofs.Laws.{octets-word, word-lt, word-take}
+use Rattle.uslp_octets.proofs.Laws.{octets-word, word-lt, are-drop, word-take}
 use Rattle.uslp_checksum.specs.Checksum.{checksumOf}
 use Rattle.uslp_checksum.proofs.Laws.{residue}
 use Rattle.uslp_kinds.specs.Outcome.{done}
@@ -28,10 +28,7 @@ use Rattle.uslp_reader.proofs.Done.{ReadDone, read-done}
 use Rattle.uslp_reader.proofs.Paths.{contents-there}
 use Rattle.uslp_roundtrip.specs.Laid.{frameOf, Laid}
 
--- a part of octets is octets
-pub are-drop : (n : ℕ) (s : List ℕ) → AreOctets s → AreOctets (drop n s)
-are-drop n s oct i = subst (λ (x : ℕ). x < 256) (sym (getD-drop n s i 0)) (oct (n + i))
-
+-- the front of octets is octets
 pub are-take : (n : ℕ) (s : List ℕ) → AreOctets s → AreOctets (take n s)
 are-take n s oct i =
     elim (decLt i n) [

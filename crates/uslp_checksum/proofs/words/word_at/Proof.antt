@@ -6,7 +6,7 @@ use borrow.Author.Needs.{needs}
 use denote.Ref.{now}
 use Rattle.uslp_octets.specs.Octets.{word}
 use Rattle.uslp_octets.proofs.Laws.{word-lt}
-use Rattle.uslp_checksum.proofs.Lows.{word-parts}
+use Rattle.uslp_octets.proofs.Laws.{word-parts}
 use Rattle.uslp_checksum.proofs.words.word_at.Statement.{statement}
 use Rattle.uslp_checksum.proofs.words.word_at.Tie as tie
 
