@@ -1,0 +1,99 @@
+-- The wrong programs that the definitions of saving and restoring shut out.
+use mathlib.Core.Path.{_≡_, refl, sym, _∙_, ap, subst}
+use mathlib.Core.Bool.{true, false}
+use mathlib.Core.List.{List, [], _∷_, _++_}
+use Prim.Native.Nat.{ℕ, _^_, _<_, _≤_}
+use native.Mathlib.Omega.{arith}
+use lib.ListN.{length, replicate}
+use Rattle.uslp_kinds.specs.Outcome.{done, refused}
+use Rattle.uslp_record.specs.Slots.{stateHolds, find, slotOf}
+use Rattle.uslp_record.specs.Record.{Kept, keeping, showing}
+use Rattle.uslp_record.specs.declared.Channel.{Channel}
+use Rattle.uslp_record.specs.declared.Totals.{Totals}
+use Rattle.uslp_record.specs.declared.SlotState.{SlotState}
+use Rattle.uslp_record.specs.declared.SlotState.the-variants.{Closed, Opened, Heard}
+use Rattle.uslp_record.specs.declared.ChannelRecord.{ChannelRecord}
+use Rattle.uslp_form.specs.Entries.{Each, Once, isOpened, isHeard}
+use Rattle.uslp_record.specs.Made.{Sound}
+use Rattle.uslp_form.specs.Form.{Form, row, rows, insert, sorted, form, formOf, GoodForm, restored}
+use Rattle.uslp_form.specs.Form.Form.{one}
+use Rattle.uslp_form.specs.Saved.{Restoring}
+use Rattle.uslp_form.proofs.Each.{Has, each-has, once-apart}
+use Rattle.uslp_record.proofs.Slots.{true-false}
+use Rattle.uslp_form.proofs.Rows.{Entry, form-one, good-unheard, good-heard, restores-done}
+use Rattle.uslp_form.proofs.Claims.{restoring-good, restoring-bad}
+use Rattle.uslp_form.proofs.Restored.{find-none, eight-restored, each-restored}
+use Rattle.uslp_record.proofs.Back.{keeping-one}
+use Rattle.uslp_record.proofs.Calls.{showing-none}
+
+-- octets made of entries that fit their columns: restoring is refused where those entries are not good
+module _ (f : Form) (r : ChannelRecord) (us hs : List SlotState) (a : Each (Entry f isOpened) us) (b : Each (Entry f isHeard) hs) (o : Kept (Unit {0}))
+    (outcome : Restoring f r (form f us hs) o) where
+  refused-unless : (GoodForm f (form f us hs) us hs → ⊥) → o ≡ keeping (refused 18 []) r
+  refused-unless n = restoring-bad f r (form f us hs) o (λ vs gs g. n (moved vs gs g)) outcome
+    where
+      moved : (vs gs : List SlotState) → GoodForm f (form f us hs) vs gs → GoodForm f (form f us hs) us hs
+      moved vs gs g =
+          let e = form-one f vs us gs hs (good-unheard f g) a (good-heard f g) b (sym (g .octets)) in
+          subst (λ (l : List SlotState). GoodForm f (form f us hs) us l) (e .1) (subst (λ (l : List SlotState). GoodForm f (form f us hs) l gs) (e .0) g)
+
+  -- nine channels
+  pub no-nine : 8 < length (us ++ hs) → o ≡ keeping (refused 18 []) r
+  no-nine h = refused-unless (λ g. omega (arith, g .few))
+
+  -- a channel that stands twice, once in each section among the ways
+  pub no-twice : (Once (us ++ hs) → ⊥) → o ≡ keeping (refused 18 []) r
+  no-twice n = refused-unless (λ g. n (g .once))
+
+  pub no-in-each : (k : Channel) (x y : SlotState) → Has us x → Has hs y → stateHolds k x ≡ true → stateHolds k y ≡ true → o ≡ keeping (refused 18 []) r
+  no-in-each k x y h g e d = no-twice (λ once. true-false d (once-apart us hs x y once h g k e))
+
+  -- an entry that no call makes
+  pub no-unsound : (x : SlotState) → Has (us ++ hs) x → (Sound x → ⊥) → o ≡ keeping (refused 18 []) r
+  no-unsound x h n = refused-unless (λ g. n (each-has Sound (us ++ hs) x (g .sound) h))
+
+  pub no-none-handed : (k : Channel) (w : ℕ) (t : Totals) → Has (us ++ hs) (Heard k w t) → t .«handed_on» ≡ 0 → o ≡ keeping (refused 18 []) r
+  no-none-handed k w t h e = no-unsound (Heard k w t) h (λ s. omega (arith, s .1 .begun))
+
+  pub no-far-last : (k : Channel) (w : ℕ) (t : Totals) → Has (us ++ hs) (Heard k w t) → 256 ^ w ≤ t .last → o ≡ keeping (refused 18 []) r
+  no-far-last k w t h e = no-unsound (Heard k w t) h (λ s. omega (arith, s .1 .last))
+
+-- restoring that keeps old channels: what it gives is the same whatever record it found, and a channel that does not stand in the octets is not open
+pub no-trace : (f : Form) (r r′ q q′ : ChannelRecord) (s : List ℕ) → Restoring f r s (keeping (done tt) q) → Restoring f r′ s (keeping (done tt) q′) → q ≡ q′
+no-trace f r r′ q q′ s h k =
+    let d = restores-done f h in
+    sym (d .is) ∙ sym (keeping-one (restoring-good f r′ s (d .unheard) (d .heard) _ (d .is-good) k) .1)
+
+pub no-old : (f : Form) (r q : ChannelRecord) (us hs : List SlotState) (s : List ℕ) → GoodForm f s us hs → Restoring f r s (keeping (done tt) q)
+    → (K : Channel) → Each (λ (x : SlotState). stateHolds K x ≡ false) (us ++ hs) → showing q K ≡ refused 13 []
+no-old f r q us hs s g h K none =
+    let l = us ++ hs in
+    let e = keeping-one (restoring-good f r s us hs _ g h) .1 in
+    let n = find-none K (restored l .slots) (each-restored l (g .few) (λ (x : SlotState). stateHolds K x ≡ false) refl none) in
+    ap (λ (x : ChannelRecord). showing x K) e
+    ∙ sym (showing-none (restored l) K (find K (restored l .slots)) refl (omega (arith, n, eight-restored l (g .few))))
+
+-- saving in slot order: two channels opened in descending order are written ascending
+abbrev craft : ℕ → ℕ → Channel
+craft s c = record { «spacecraft_id» = s; «vc_id» = c }
+
+abbrev descending : ChannelRecord
+descending = record {
+  slots = slotOf (Opened (craft 0x1234 5) 1) ∷ slotOf (Opened (craft 0x1233 63) 7) ∷ slotOf
+      (Heard (craft 9 0) 2 (record { last = 258; «handed_on» = 3; missing = 1; repeats = 0; late = 0 })) ∷ replicate 5 (slotOf Closed);
+}
+
+-- two of them alone
+abbrev pub two : ChannelRecord
+two = record { slots = slotOf (Opened (craft 0x1234 5) 1) ∷ slotOf (Opened (craft 0x1233 63) 7) ∷ replicate 6 (slotOf Closed) }
+
+pub written-ascending : formOf one descending
+    ≡ 2 ∷ 0x12 ∷ 0x33 ∷ 63 ∷ 7 ∷ 0x12 ∷ 0x34 ∷ 5 ∷ 1
+    ∷ 1 ∷ 0 ∷ 9 ∷ 0 ∷ 2
+    ∷ 0 ∷ 0 ∷ 0 ∷ 0 ∷ 0 ∷ 0 ∷ 1 ∷ 2
+    ∷ 0 ∷ 0 ∷ 0 ∷ 0 ∷ 0 ∷ 0 ∷ 0 ∷ 3
+    ∷ 0 ∷ 0 ∷ 0 ∷ 0 ∷ 0 ∷ 0 ∷ 0 ∷ 1
+    ∷ 0 ∷ 0 ∷ 0 ∷ 0 ∷ 0 ∷ 0 ∷ 0 ∷ 0
+    ∷ 0 ∷ 0 ∷ 0 ∷ 0 ∷ 0 ∷ 0 ∷ 0 ∷ 0 ∷ []
+unfolding rows insert sorted
+written-ascending = refl
