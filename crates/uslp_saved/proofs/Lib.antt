@@ -1,0 +1,10 @@
+pub mod Fields
+pub mod Entries
+pub mod Filled
+pub mod Picked
+pub mod Chosen
+pub mod Puts
+pub mod Walk
+pub mod Telling
+pub mod Admits
+pub mod Told

@@ -1,0 +1,26 @@
+-- The four octets of an entry that was not heard.
+use borrow.Author.Needs.{needs}
+use native.Mathlib.Omega.{arith}
+use Rattle.uslp_saved.proofs.Fields.{unheard-at}
+use Rattle.uslp_saved.proofs.restoring.read_unheard.Statement.{statement}
+use Rattle.uslp_saved.proofs.restoring.read_unheard.Tie as tie
+
+returns : tie.Need-returns
+returns c =
+    let s = c .before .before .before .before .before .before in
+    unheard-at (s .args .from .now) (λ i. omega (arith, c .before .before .before .before .before .shared-slice-known .given i)) (s .args .at) _
+    (c .before .before .be-u16 .ensures)
+
+pub read-unheard-spec : {M : Type 1} → statement M
+read-unheard-spec =
+    tie.close
+    (tie.spec
+    (λ c. search needs)
+    (λ c. search needs)
+    (λ c. search needs)
+    (λ c κs. search needs)
+    (λ c. search needs)
+    (λ c. search needs)
+    (λ c. search needs)
+    (λ c. search needs)
+    returns)

@@ -1,0 +1,65 @@
+-- Both sections are put, and copied where there is room.
+use borrow.Author.Needs.{needs}
+use mathlib.Core.Path.{_∙_, ap}
+use Prim.Native.Nat.{ℕ, _-_}
+use native.Mathlib.Nat.{sub-zero}
+use native.Mathlib.Omega.{arith}
+use lib.ListN.{take}
+use Rattle.uslp_record.proofs.Seek.{long-of}
+use Rattle.uslp_saved.proofs.Walk.{both-sections, cells, save-short, save-done, sections-fit}
+use Rattle.uslp_saved.proofs.save.Statement.{statement}
+use Rattle.uslp_saved.proofs.save.Tie as tie
+
+put-section-requires : tie.Need-put-section-requires
+put-section-requires c κs =
+    let s = c .before .before in
+    omega (arith, c .empty .ensures .0, sections-fit (s .args .channels) (long-of (s .args .channels .slots) (s .good .0 .1 .1 .0 .1 .0 .1)))
+
+put-section-requires-2 : tie.Need-put-section-requires-2
+put-section-requires-2 c κs =
+    let s = c .before .before .before in
+    omega (
+      arith,
+      c .before .empty .ensures .0,
+      c .put-section .ensures .0,
+      sections-fit (s .args .channels)
+          (long-of (s .args .channels .slots) (s .good .0 .1 .1 .0 .1 .0 .1)),
+    )
+
+returns : tie.Need-returns
+returns c =
+    let p = c .before .before in
+    let s = p .before .before .before .before in
+    let b = both-sections _ _ _ (s .args .channels) (p .before .before .empty .ensures) (p .before .put-section .ensures) (p .put-section2 .ensures) in
+    save-short (s .args .channels) (s .args .to .now) _ (b .0) (omega arith)
+
+part-copy-octets-end : tie.Need-part-copy-octets-end
+part-copy-octets-end c =
+    let p = c .before .before .before in
+    let s = p .before .before .before .before in
+    let b = both-sections _ _ _ (s .args .channels) (p .before .before .empty .ensures) (p .before .put-section .ensures) (p .put-section2 .ensures) in
+    cells _ _ b
+
+returns-2 : tie.Need-returns-2
+returns-2 c =
+    let p = c .before .before .before .before .before .before .before .before in
+    let s = p .before .before .before .before in
+    let b = both-sections _ _ _ (s .args .channels) (p .before .before .empty .ensures) (p .before .put-section .ensures) (p .put-section2 .ensures) in
+    let o = p .put-section2 .result in
+    save-done (s .args .channels) (s .args .to .now) (o .len) (b .0) (take (o .len - 0) (o .octets)) _ (omega arith)
+    (ap (λ (k : ℕ). take k (o .octets)) (sub-zero (o .len)) ∙ b .1) (c .before .before .copy-octets .ensures)
+
+pub save-spec : {M : Type 1} → statement M
+save-spec =
+    tie.close
+    (tie.spec
+    (λ c κs. search needs)
+    put-section-requires
+    put-section-requires-2
+    returns
+    (λ c. search needs)
+    (λ c. search needs)
+    part-copy-octets-end
+    (λ c κs. search needs)
+    (λ c. search needs)
+    returns-2)

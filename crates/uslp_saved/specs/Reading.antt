@@ -1,0 +1,111 @@
+-- The entries that octets have, if they have the form, and what is asked of each: what the code reads on its way. `save` and `restore`
+-- promise nothing of these.
+use mathlib.Core.Path.{_≡_}
+use mathlib.Core.Bool.{Bool, true, false}
+use mathlib.Core.List.{List, [], _∷_, _++_}
+use Prim.Native.Nat.{ℕ, zero, suc, _+_, _*_, _-_, _<_, _≤_}
+use lib.ListN.{length, drop, getD}
+use Rattle.uslp_octets.specs.Octets.{Field, unpack, named}
+use Rattle.uslp_record.specs.Slots.{stateHolds, find, stateAt}
+use Rattle.uslp_record.specs.Made.{Sound}
+use Rattle.uslp_record.specs.declared.Channel.{Channel}
+use Rattle.uslp_record.specs.declared.Totals.{Totals}
+use Rattle.uslp_record.specs.declared.SlotState.{SlotState}
+use Rattle.uslp_record.specs.declared.SlotState.the-variants.{Opened, Heard}
+use Rattle.uslp_record.specs.declared.ChannelRecord.{ChannelRecord}
+use Rattle.uslp_form.specs.Form.{Form, row, rank}
+use Rattle.uslp_form.specs.Form.Form.{one}
+
+-- a channel and totals of zeros: their rows have the columns' names and widths
+abbrev pub noChannel : Channel
+noChannel = record { «spacecraft_id» = 0; «vc_id» = 0 }
+
+abbrev pub noTotals : Totals
+noTotals = record { last = 0; «handed_on» = 0; missing = 0; repeats = 0; late = 0 }
+
+-- how many octets an entry has
+abbrev pub unheardLong : Form → ℕ
+unheardLong one = 4
+
+abbrev pub heardLong : Form → ℕ
+heardLong one = 44
+
+-- what a row says
+abbrev pub channelIn : Form → List Field → Channel
+channelIn one fs = record { «spacecraft_id» = named "spacecraft" fs; «vc_id» = named "channel" fs }
+
+abbrev pub totalsIn : List Field → Totals
+totalsIn fs =
+    record {
+      last = named "last" fs;
+      «handed_on» = named "handed on" fs;
+      missing = named "missing" fs;
+      repeats = named "repeats" fs;
+      late = named "late" fs;
+    }
+
+abbrev pub openedBy : Form → List Field → SlotState
+openedBy f fs = Opened (channelIn f fs) (named "width" fs)
+
+abbrev pub heardBy : Form → List Field → SlotState
+heardBy f fs = Heard (channelIn f fs) (named "width" fs) (totalsIn fs)
+
+-- so many entries, one behind the other
+abbrev pub entriesIn : (List ℕ → SlotState) → ℕ → ℕ → List ℕ → List SlotState
+entriesIn read long zero s = []
+entriesIn read long (suc n) s = read s ∷ entriesIn read long n (drop long s)
+
+-- a test that was made tells whether P holds
+abbrev pub Tells : Bool → Type 0 → Type 0
+Tells b P = (b ≡ true → P) × (b ≡ false → P → ⊥)
+
+-- the slot i is the first that holds the channel of x
+abbrev pub FirstAt : ChannelRecord → ℕ → SlotState → Type 0
+FirstAt q i x = (k : Channel) → stateHolds k x ≡ true → find k (q .slots) ≡ i
+
+module _ (f : Form) where
+  abbrev pub unheardIn : List ℕ → SlotState
+  unheardIn s = openedBy f (unpack (row f (Opened noChannel 0)) s)
+
+  abbrev pub heardIn : List ℕ → SlotState
+  heardIn s = heardBy f (unpack (row f (Heard noChannel 0 noTotals)) s)
+
+  -- the counts of both sections, where the second begins, and how long all is
+  abbrev pub firstCount : List ℕ → ℕ
+  firstCount s = getD s 0 0
+
+  abbrev pub second : List ℕ → ℕ
+  second s = 1 + firstCount s * unheardLong f
+
+  abbrev pub secondCount : List ℕ → ℕ
+  secondCount s = getD s (second s) 0
+
+  abbrev pub formLong : List ℕ → ℕ
+  formLong s = second s + 1 + secondCount s * heardLong f
+
+  abbrev pub unheardOfOctets : List ℕ → List SlotState
+  unheardOfOctets s = entriesIn unheardIn (unheardLong f) (firstCount s) (drop 1 s)
+
+  abbrev pub heardOfOctets : List ℕ → List SlotState
+  heardOfOctets s = entriesIn heardIn (heardLong f) (secondCount s) (drop (second s + 1) s)
+
+  abbrev pub entriesOfOctets : List ℕ → List SlotState
+  entriesOfOctets s = unheardOfOctets s ++ heardOfOctets s
+
+  -- the counts are small, and there are as many octets as they say
+  pub record Shaped (s : List ℕ) : Type 0 where
+    pub long : formLong s ≡ length s
+    pub few : firstCount s + secondCount s ≤ 8
+
+  -- it stands above the one before it in its section
+  abbrev pub Above : ChannelRecord → ℕ → ℕ → Type 0
+  Above q n i = 0 < i → (i ≡ n → ⊥) → rank f (stateAt q (i - 1)) < rank f (stateAt q i)
+
+  -- what is asked of slot i, where the first n are not heard
+  pub record Admitted (q : ChannelRecord) (n i : ℕ) : Type 0 where
+    pub sound : Sound (stateAt q i)
+    pub above : Above q n i
+    pub first : FirstAt q i (stateAt q i)
+
+  abbrev pub AllAdmitted : ChannelRecord → ℕ → ℕ → Type 0
+  AllAdmitted q n total = (i : ℕ) → i < total → Admitted q n i
