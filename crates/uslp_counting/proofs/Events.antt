@@ -13,7 +13,7 @@ use Rattle.uslp_record.proofs.Slots.{same-self}
 use Rattle.uslp_hearing.specs.Hearing.{frameHearing}
 use Rattle.uslp_hearing.specs.declared.FrameArrival.{FrameArrival}
 use Rattle.uslp_counting.specs.Places.{leaders, Close, Window}
-use Rattle.uslp_counting.specs.History.{Handing, recordOf, answerOf, handing, called, Roomy, Sender, frameAt, Event, callOf, placesOf, places}
+use Rattle.uslp_counting.specs.History.{Handing, recordOf, answerOf, handing, called, Roomy, Sender, frameAt, Event, callOf, placesOf}
 use Rattle.uslp_counting.specs.History.Event.{arrives, damaged, elsewhere, misfits, opened, closed, again}
 use Rattle.uslp_counting.proofs.Stands.{Stands, stands-own, stands-opening, stands-closing, stands-again}
 use Rattle.uslp_counting.proofs.Others.{passes-damaged, passes-elsewhere, passes-misfit}

@@ -1,6 +1,7 @@
 pub mod Ahead
 pub mod Lost
 pub mod Stands
+pub mod Restarts
 pub mod Others
 pub mod Arrival
 pub mod Step
@@ -9,6 +10,8 @@ pub mod Theorem
 pub mod Room
 pub mod Refusals
 pub mod Console
+pub mod Called
 pub mod Witness
 pub mod Instance
+pub mod Restarted
 pub mod Wrong

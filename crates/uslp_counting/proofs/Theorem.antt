@@ -1,4 +1,4 @@
--- The console counts what it lacks: what is handed on is what is ahead of all before it, and what is missing is what was lost.
+-- The console counts what it lacks, over restarts too: what is handed on is what is ahead of all before it, and what is missing is what was lost.
 use mathlib.Core.Path.{_≡_, refl, sym, _∙_, ap, subst}
 use mathlib.Core.Bool.{Bool}
 use mathlib.Core.List.{List, [], _∷_, _++_, map, append-nil}
@@ -12,9 +12,12 @@ use Rattle.uslp_record.specs.declared.SlotState.the-variants.{Opened}
 use Rattle.uslp_record.specs.declared.ChannelRecord.{ChannelRecord}
 use Rattle.uslp_hearing.specs.Hearing.{frameHearing}
 use Rattle.uslp_counting.specs.Places.{leaders, Window, lost}
-use Rattle.uslp_counting.specs.History.{Handing, called, run, handed, Unfilled, missingFor, Sender, Event, callOf, following, handings, places}
+use Rattle.uslp_counting.specs.History.{Hearer, Handing, called, run, handed, Unfilled, missingFor, Sender, Event, callOf, following, handings, places}
 use Rattle.uslp_counting.specs.Demand.{Demand3}
+use Rattle.uslp_counting.specs.Restarts.{Leads, Demand3Over}
+use Rattle.uslp_counting.specs.Restarts.Leads.{ends, next, restart}
 use Rattle.uslp_counting.proofs.Stands.{Stands, stands-opened}
+use Rattle.uslp_counting.proofs.Restarts.{restart-keeps}
 use Rattle.uslp_counting.proofs.Step.{Counting, quiet, counting-missing, handingsAfter}
 use Rattle.uslp_counting.proofs.Events.{seenWith, window-first, went}
 
@@ -24,52 +27,76 @@ seenOver seen [] = seen
 seenOver seen (e ∷ es) = seenOver (seenWith e seen) es
 
 module _ {K : Channel} {width : ℕ} {fecf : Bool} (S : Sender K width fecf) where
-  -- Events that happened after the places seen, of which `before` were handed on: what they handed on, and that the channel stands after
-  -- them with everything counted, so that what follows can go on from there.
-  pub record Counted (es : List (Event K width)) (r : ChannelRecord) (seen before : List ℕ) : Type 0 where
-    pub hands : handed frameHearing K r (map (callOf S) es) ≡ handingsAfter S seen (leaders seen (places es))
+  -- Events that led to the record q and handed hs on, after the places seen, of which `before` were handed on: hs is what was to be handed
+  -- on, and the channel stands in q with everything counted, so that what follows can go on from there.
+  pub record Counted (es : List (Event K width)) (hs : List Handing) (q : ChannelRecord) (seen before : List ℕ) : Type 0 where
+    pub hands : hs ≡ handingsAfter S seen (leaders seen (places es))
     pub state : SlotState
-    pub stands : Stands K (run frameHearing K r (map (callOf S) es)) state
+    pub stands : Stands K q state
     pub counting : Counting S (seenOver seen es) (before ++ leaders seen (places es)) state
-
-  pub missing-after : {es : List (Event K width)} {r : ChannelRecord} {seen before : List ℕ} → Counted es r seen before
-      → missingFor K (run frameHearing K r (map (callOf S) es)) ≡ lost (before ++ leaders seen (places es))
-  missing-after c = ap missingOf (c .stands .state) ∙ counting-missing S (c .counting)
 
   handings-none : (seen : List ℕ) → [] ≡ handingsAfter S seen []
   unfolding handings following
   handings-none [] = refl
   handings-none (k ∷ ks) = refl
 
-  pub counts : 1 ≤ width → width ≤ 7 → (es : List (Event K width)) (r : ChannelRecord) (seen before : List ℕ) (t : SlotState) → Stands K r t
-      → Counting S seen before t
-      → Window (256 ^ width / 2) seen (places es) → Unfilled frameHearing K r (map (callOf S) es) → Counted es r seen before
-  unfolding handed run Unfilled places leaders seenOver
-  counts lo hi [] r seen before t at c near room = record {
+  pub counts : 1 ≤ width → width ≤ 7 → {es : List (Event K width)} {hs : List Handing} {r q : ChannelRecord} → Leads frameHearing S r es hs q
+      → (seen before : List ℕ) (t : SlotState) → Stands K r t → Counting S seen before t → Window (256 ^ width / 2) seen (places es)
+      → Counted es hs q seen before
+  unfolding places leaders seenOver
+  counts lo hi ends seen before t at c near = record {
     hands = handings-none seen;
     state = t;
     stands = at;
     counting = subst (λ (l : List ℕ). Counting S seen l t) (sym (append-nil before)) c;
   }
-  counts lo hi (e ∷ es) r seen before t at c near room =
+  counts lo hi (next {r = r} {es = es} e room rest) seen before t at c near =
       let w = window-first e seen (places es) near in
-      let h = went S lo hi e r at c (w .0) (room .0) in
-      let q = called frameHearing K r (callOf S e) in
-      let ih = counts lo hi es (q .1) (seenWith e seen) (h .leading) (h .state) (h .stands) (h .counting) (w .1) (room .1) in
+      let h = went S lo hi e r at c (w .0) room in
+      let ih = counts lo hi rest (seenWith e seen) (h .leading) (h .state) (h .stands) (h .counting) (w .1) in
       record {
-        hands = ap (λ (hs : List Handing). q .0 ++ hs) (ih .hands) ∙ h .hands (places es);
+        hands = ap (λ (hs : List Handing). called frameHearing K r (callOf S e) .0 ++ hs) (ih .hands) ∙ h .hands (places es);
         state = ih .state;
         stands = ih .stands;
         counting = subst (λ (l : List ℕ). Counting S (seenOver (seenWith e seen) es) l (ih .state)) (h .leads (places es)) (ih .counting);
       }
+  counts lo hi (restart g rest) seen before t at c near = counts lo hi rest seen before t (restart-keeps g K t at) c near
+
+-- demand 3 over restarts holds of the hearing here
+pub counted-over : Demand3Over frameHearing
+counted-over K width fecf S lo hi r₀ r q long begins es hs l near =
+    let c = counts S lo hi l [] [] (Opened K width) (stands-opened K width r₀ r long begins) quiet near in
+    (c .hands, ap missingOf (c .stands .state) ∙ counting-missing S (c .counting))
+
+-- a history of events is a run without restarts
+pub leads-of : (H : Hearer) {K : Channel} {width : ℕ} {fecf : Bool} (S : Sender K width fecf) (es : List (Event K width)) (r : ChannelRecord)
+    → Unfilled H K r (map (callOf S) es) → Leads H S r es (handed H K r (map (callOf S) es)) (run H K r (map (callOf S) es))
+unfolding handed run Unfilled
+leads-of H S [] r room = ends
+leads-of H {K} S (e ∷ es) r room = next e (room .0) (leads-of H S es (called H K r (callOf S e) .1) (room .1))
+
+-- so any hearing that has demand 3 over restarts has it without them
+pub over : (H : Hearer) → Demand3Over H → Demand3 H
+over H demand K width fecf S lo hi r₀ r long begins es near room =
+    demand K width fecf S lo hi r₀ r _ long begins es _ (leads-of H S es r room) near
 
 -- demand 3 holds of the hearing here
 pub counted : Demand3 frameHearing
-counted K width fecf S lo hi r₀ r long begins es near room =
-    let c = counts S lo hi es r [] [] (Opened K width) (stands-opened K width r₀ r long begins) quiet near room in
-    (c .hands, missing-after S c)
+counted = over frameHearing counted-over
 
--- Only arrivals alter what is counted: two histories in which the same places arrive hand on the same, and have the same missing.
+-- Only arrivals alter what is counted: two runs in which the same places arrive hand on the same, and have the same missing.
+pub unaltered-over : {K : Channel} {width : ℕ} {fecf : Bool} (S : Sender K width fecf) → 1 ≤ width → width ≤ 7
+    → (r₀ r r₀′ r′ : ChannelRecord) → length (r₀ .slots) ≡ 8 → length (r₀′ .slots) ≡ 8
+    → opening r₀ K width ≡ keeping (done tt) r → opening r₀′ K width ≡ keeping (done tt) r′
+    → {q q′ : ChannelRecord} {es es′ : List (Event K width)} {hs hs′ : List Handing}
+    → Leads frameHearing S r es hs q → Leads frameHearing S r′ es′ hs′ q′ → places es ≡ places es′ → Window (256 ^ width / 2) [] (places es)
+    → (hs ≡ hs′) × (missingFor K q ≡ missingFor K q′)
+unaltered-over {K} {width} {fecf} S lo hi r₀ r r₀′ r′ long long′ begins begins′ {q} {q′} {es} {es′} {hs} {hs′} l l′ same near =
+    let a = counted-over K width fecf S lo hi r₀ r q long begins es hs l near in
+    let b = counted-over K width fecf S lo hi r₀′ r′ q′ long′ begins′ es′ hs′ l′ (subst (Window (256 ^ width / 2) []) same near) in
+    (a .0 ∙ ap (λ (ps : List ℕ). handings S (leaders [] ps)) same ∙ sym (b .0), a .1 ∙ ap (λ (ps : List ℕ). lost (leaders [] ps)) same ∙ sym (b .1))
+
+-- the same of histories without restarts
 pub unaltered : {K : Channel} {width : ℕ} {fecf : Bool} (S : Sender K width fecf) → 1 ≤ width → width ≤ 7
     → (r₀ r r₀′ r′ : ChannelRecord) → length (r₀ .slots) ≡ 8 → length (r₀′ .slots) ≡ 8
     → opening r₀ K width ≡ keeping (done tt) r → opening r₀′ K width ≡ keeping (done tt) r′
@@ -77,7 +104,5 @@ pub unaltered : {K : Channel} {width : ℕ} {fecf : Bool} (S : Sender K width fe
     → Unfilled frameHearing K r (map (callOf S) es) → Unfilled frameHearing K r′ (map (callOf S) es′)
     → (handed frameHearing K r (map (callOf S) es) ≡ handed frameHearing K r′ (map (callOf S) es′))
     × (missingFor K (run frameHearing K r (map (callOf S) es)) ≡ missingFor K (run frameHearing K r′ (map (callOf S) es′)))
-unaltered {K} {width} {fecf} S lo hi r₀ r r₀′ r′ long long′ begins begins′ es es′ same near room room′ =
-    let a = counted K width fecf S lo hi r₀ r long begins es near room in
-    let b = counted K width fecf S lo hi r₀′ r′ long′ begins′ es′ (subst (Window (256 ^ width / 2) []) same near) room′ in
-    (a .0 ∙ ap (λ (ps : List ℕ). handings S (leaders [] ps)) same ∙ sym (b .0), a .1 ∙ ap (λ (ps : List ℕ). lost (leaders [] ps)) same ∙ sym (b .1))
+unaltered S lo hi r₀ r r₀′ r′ long long′ begins begins′ es es′ same near room room′ =
+    unaltered-over S lo hi r₀ r r₀′ r′ long long′ begins begins′ (leads-of frameHearing S es r room) (leads-of frameHearing S es′ r′ room′) same near

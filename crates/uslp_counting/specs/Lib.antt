@@ -2,3 +2,4 @@ pub mod Places
 pub mod History
 pub mod Demand
 pub mod Console
+pub mod Restarts

@@ -1,0 +1,116 @@
+-- Every record that calls made, restorings among them: its console total, and that a saving of it comes back.
+use mathlib.Core.Path.{_≡_, sym, subst}
+use mathlib.Core.Bool.{Bool}
+use mathlib.Core.List.{List, _++_, map}
+use Prim.Native.Nat.{ℕ, _≤_}
+use lib.ListN.{length, drop}
+use lib.Seq.{take-append-seam}
+use Rattle.uslp_kinds.specs.Outcome.{done, leaving}
+use Rattle.uslp_record.specs.Slots.{stateAt}
+use Rattle.uslp_record.specs.Record.{Kept, keeping, consoleTotal}
+use Rattle.uslp_record.specs.Made.{Made}
+use Rattle.uslp_record.specs.declared.Channel.{Channel}
+use Rattle.uslp_record.specs.declared.ChannelRecord.{ChannelRecord}
+use Rattle.uslp_record.proofs.Keeps.{made-empty, made-opening, made-closing}
+use Rattle.uslp_form.specs.Form.{Form, formOf, restored}
+use Rattle.uslp_form.specs.Saved.{saving, Restoring}
+use Rattle.uslp_form.specs.Saved.Restoring.{good, bad}
+use Rattle.uslp_form.proofs.Trips.{entriesOf, made-good}
+use Rattle.uslp_form.proofs.Rows.{sound-fits, restores-done}
+use Rattle.uslp_form.proofs.Claims.{saving-done, Back, restores-saved, comes-back}
+use Rattle.uslp_hearing.specs.Hearing.{frameHearing}
+use Rattle.uslp_hearing.proofs.Ways.{made-hearing}
+use Rattle.uslp_counting.specs.History.{recordOf, Handing, called, Sender, Event, Call, callOf}
+use Rattle.uslp_counting.specs.History.Call.{hears as hearing, opens as opening, closes as closing}
+use Rattle.uslp_counting.specs.Console.{missingOverOpen, Given, GivenAll}
+use Rattle.uslp_counting.specs.Restarts.{Wrote, Restart, Leads, Called}
+use Rattle.uslp_counting.specs.Restarts.Restart.{resumes, refuses}
+use Rattle.uslp_counting.specs.Restarts.Leads.{ends, next, restart}
+use Rattle.uslp_counting.specs.Restarts.Called.{new, opens, closes, hears, restores}
+use Rattle.uslp_counting.proofs.Restarts.{wrote-form}
+use Rattle.uslp_counting.proofs.Console.{console-made}
+
+-- what holds of records that calls made holds after a restoring too, done or refused
+made-restoring : {f : Form} {r : ChannelRecord} {s : List ℕ} {q : Kept (Unit {0})} → Made r → Restoring f r s q → Made (recordOf q)
+made-restoring {f} {s} made (good us hs g) = made-good f s us hs g
+made-restoring made (bad none) = made
+
+pub made-called : {r : ChannelRecord} → Called r → Made r
+made-called new = made-empty
+made-called (opens {r = r} k w craft c) = made-opening r (made-called c) k w craft
+made-called (closes {r = r} k c) = made-closing r (made-called c) k
+made-called (hears {r = r} s fecf oct c) = made-hearing r (made-called c) s fecf oct
+made-called (restores f s h c) = made-restoring (made-called c) h
+
+-- so its console total is the sum over the open channels of what each is missing
+pub console-called : {r : ChannelRecord} → Called r → consoleTotal r ≡ done (missingOverOpen r)
+console-called {r} c = console-made r (made-called c)
+
+-- r is saved into b, and what was written is restored, whatever record is found then: done, and what is asked is answered as before
+pub record CameBack (f : Form) (r : ChannelRecord) (b : List ℕ) (found : ChannelRecord) : Type 0 where
+  pub saves : saving f r b ≡ leaving (done (length (formOf f r))) (formOf f r ++ drop (length (formOf f r)) b)
+  pub wrote : Wrote f r (formOf f r)
+  pub q : ChannelRecord
+  pub restores : Restoring f found (formOf f r) (keeping (done tt) q)
+  pub back : Back f r q
+
+pub called-back : {r : ChannelRecord} → Called r → (f : Form) (b : List ℕ) → length (formOf f r) ≤ length b → (found : ChannelRecord) → CameBack f r b found
+called-back {r} c f b room found =
+    let s = formOf f r in
+    let rest = drop (length s) b in
+    let made = made-called c in
+    let e = saving-done f r b room in
+    record {
+      saves = e;
+      wrote = record { buffer = b; left = s ++ rest; count = length s; saves = e; octets = take-append-seam s rest };
+      q = restored (entriesOf f r);
+      restores = restores-saved f r made found;
+      back = comes-back f r made found;
+    }
+
+-- a call leaves such a record, and so does a restoring that is done, whatever record it found
+called-call : (K : Channel) {r : ChannelRecord} (c : Call) → Given c → Called r → Called (called frameHearing K r c .1)
+called-call K (hearing s fecf) given c = hears s fecf given c
+called-call K (opening k w) given c = opens k w given c
+called-call K (closing k) given c = closes k c
+
+called-restored : {f : Form} {found q : ChannelRecord} {s : List ℕ} → Restoring f found s (keeping (done tt) q) → Called q
+called-restored {f} {s} h = let d = restores-done f h in subst Called (d .is) (restores f s (good (d .unheard) (d .heard) (d .is-good)) new)
+
+-- octets that saving m wrote are restored, whatever record is found
+module _ {f : Form} {m : ChannelRecord} {s : List ℕ} (c : Called m) (w : Wrote f m s) (found : ChannelRecord) where
+  restores-wrote : Restoring f found s (keeping (done tt) (restored (entriesOf f m)))
+  restores-wrote =
+      subst (λ (o : List ℕ). Restoring f found o (keeping (done tt) (restored (entriesOf f m)))) (sym (wrote-form w))
+      (restores-saved f m (made-called c) found)
+
+  pub restarts-called : Restart m (restored (entriesOf f m))
+  restarts-called = resumes f (λ i. sound-fits f (stateAt m i) (made-called c .sound i)) w restores-wrote
+
+module _ {K : Channel} {width : ℕ} {fecf : Bool} (S : Sender K width fecf) where
+  -- a restart at the end of a run
+  leads-restart : {r m q : ChannelRecord} {es : List (Event K width)} {hs : List Handing}
+      → Leads frameHearing S r es hs m → Restart m q → Leads frameHearing S r es hs q
+  leads-restart ends g = restart g ends
+  leads-restart (next e room l) g = next e room (leads-restart l g)
+  leads-restart (restart h l) g = restart h (leads-restart l g)
+
+  -- so what a run leads to from such a record is such a record
+  pub leads-called : {r q : ChannelRecord} {es : List (Event K width)} {hs : List Handing} → Called r → GivenAll (map (callOf S) es)
+      → Leads frameHearing S r es hs q → Called q
+  leads-called c given ends = c
+  leads-called c given (next e room l) = leads-called (called-call K (callOf S e) (given .0) c) (given .1) l
+  leads-called c given (restart (resumes f fit w h) l) = leads-called (called-restored h) given l
+  leads-called c given (restart (refuses f s h) l) = leads-called (restores f s h c) given l
+
+  -- the octets s are restored where the record `found` is: done, and the run from r goes on
+  pub record GoesOn (r : ChannelRecord) (es : List (Event K width)) (hs : List Handing) (f : Form) (found : ChannelRecord) (s : List ℕ) : Type 0 where
+    pub q : ChannelRecord
+    pub restores : Restoring f found s (keeping (done tt) q)
+    pub leads : Leads frameHearing S r es hs q
+
+  -- A run led to a record m that calls made, and saving m wrote s: whatever was called since, restoring s is done and the run goes on.
+  pub goes-on : {r m : ChannelRecord} {es : List (Event K width)} {hs : List Handing} → Leads frameHearing S r es hs m → Called m
+      → {f : Form} {s : List ℕ} → Wrote f m s → (found : ChannelRecord) → GoesOn r es hs f found s
+  goes-on {m} l c {f} w found =
+      record { q = restored (entriesOf f m); restores = restores-wrote c w found; leads = leads-restart l (restarts-called c w found) }
