@@ -1,4 +1,4 @@
--- Demand 1 of the calls that write: a refusal leaves every octet of the lent buffer as it was.
+-- Demand 1 of the calls that write: a refusal leaves every octet of the lent buffer as it was, and of restoring: it leaves the record.
 use mathlib.Core.Path.{_≡_, sym}
 use mathlib.Core.Bool.{Bool, true, cond}
 use mathlib.Core.List.{List, [], _∷_, _++_}
@@ -23,6 +23,11 @@ use Rattle.uslp_writer.specs.declared.TransferFrameCreator.{TransferFrameCreato
 use Rattle.uslp_writer.specs.declared.TransferFrameCreatorWithReservedData.{TransferFrameCreatorWithReservedData}
 use Rattle.uslp_writer.specs.declared.ReservedAnswer.the-variants as reserved-answer
 use Rattle.uslp_kinds.specs.declared.DoneAnswer.the-variants as done-answer
+use Rattle.uslp_record.specs.declared.ChannelRecord.{ChannelRecord}
+use Rattle.uslp_form.specs.Form.{formOf}
+use Rattle.uslp_form.specs.Form.Form.{one}
+use Rattle.uslp_form.specs.Saved.{saving}
+use Rattle.uslp_form.proofs.Rows.{restores-refused}
 use Rattle.uslp_listing.specs.Listing.{listing, room, listingOver}
 use Rattle.uslp_lent.specs.Setting.{headerLeft, headerOff}
 use Rattle.uslp_lent.proofs.setters as setters
@@ -32,6 +37,7 @@ use Rattle.uslp_demands.proofs.Facts.{implies}
 use Rattle.uslp_demands.proofs.OfPrimaryHeader as of-header
 use Rattle.uslp_demands.proofs.OfDataFieldHeader as of-field
 use Rattle.uslp_demands.proofs.OfWriter.{fn-write-to-slice, fn-new, fn-fill, fn-finish}
+use Rattle.uslp_demands.proofs.OfSaved.{fn-save, fn-restore}
 use Rattle.uslp_demands.proofs.OfListing.{fn-list}
 
 -- the last check of a writing: room
@@ -92,6 +98,19 @@ module _ (r : Refusal) (s : RefT (List ℕ)) (left : List ℕ) where
       refused-keeps (firstOf (short (now s) room) (done (length (listing (now recording)))))
       (listing (now recording) ++ drop (length (listing (now recording))) (now s)) (now s)
       (sym e)
+
+  pub save-kept : (κs : Lfts 1) (q : ChannelRecord)
+      → Allows fn-save κs (q, (s, tt)) (Refused r, (tt, (left, tt)))
+      → left ≡ now s
+  unfolding saving
+  save-kept κs q e =
+      let n = length (formOf one q) in
+      refused-keeps (firstOf (short (now s) n) (done n)) (formOf one q ++ drop n (now s)) (now s) (sym e)
+
+pub restore-kept : (r : Refusal) (κs : Lfts 1) (q left : ChannelRecord) (s : RefT (List ℕ))
+    → Allows fn-restore κs (q, (s, tt)) (record { answer = done-answer.Refused r; next = left }, (tt, (tt, tt)))
+    → left ≡ q
+restore-kept r κs q left s e = sym (restores-refused one e)
 
 -- a setter over a lent header leaves what its decision says: on a refusal the header that it found
 setting-kept : (h left : PrimaryHeader) (o : Outcome PrimaryHeader) {k : ℕ} {vs : List ℕ} → left ≡ headerLeft h o → refused k vs ≡ headerOff o → left ≡ h

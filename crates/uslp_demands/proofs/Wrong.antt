@@ -1,5 +1,6 @@
--- Any program that keeps the promise of the reader, of the writer or of the hearing has demand 2 or 3, so the programs that those demands shut
--- out (`uslp_roundtrip/proofs/Wrong.antt`, `uslp_counting/proofs/Wrong.antt`) keep none of them. And none reports a too-long total wrapped.
+-- Any program that keeps the promise of the reader, of the writer or of the hearing has demand 2 or 3, over restarts too, so the programs that
+-- those demands shut out (`uslp_roundtrip/proofs/Wrong.antt`, `uslp_counting/proofs/Wrong.antt`) keep none of them. And none reports a too-long
+-- total wrapped.
 use mathlib.Core.Path.{_≡_, refl, sym, _∙_, subst}
 use mathlib.Core.List.{List, []}
 use Prim.Native.Nat.{ℕ}
@@ -21,7 +22,8 @@ use Rattle.uslp_roundtrip.specs.Demand as frames
 use Rattle.uslp_roundtrip.proofs.Demand.{reads, writes}
 use Rattle.uslp_counting.specs.History as histories
 use Rattle.uslp_counting.specs.Demand.{Demand3}
-use Rattle.uslp_counting.proofs.Theorem.{counted}
+use Rattle.uslp_counting.specs.Restarts.{Demand3Over}
+use Rattle.uslp_counting.proofs.Theorem.{counted-over, over}
 use Rattle.uslp_demands.specs.Promise.{at, Program, Keeps}
 use Rattle.uslp_demands.proofs.OfWriter.{fn-write-to-slice}
 use Rattle.uslp_demands.proofs.OfReader.{fn-from-bytes}
@@ -44,8 +46,11 @@ reader-demand f k = subst frames.Demand2Reader (λ i s fecf. sym (k ([], tt) (at
 pub writer-demand : (f : Program fn-write-to-slice) → Keeps fn-write-to-slice f → frames.Demand2Writer (writerOf f)
 writer-demand f k = subst frames.Demand2Writer (λ i c d s. sym (k ([], ([], tt)) (c, (at d, (at s, tt)))) i) writes
 
+pub hearer-demand-over : (f : Program fn-hear) → Keeps fn-hear f → Demand3Over (hearerOf f)
+hearer-demand-over f k = subst Demand3Over (λ i r s fecf. sym (k ([], tt) (r, (at s, (fecf, tt)))) i) counted-over
+
 pub hearer-demand : (f : Program fn-hear) → Keeps fn-hear f → Demand3 (hearerOf f)
-hearer-demand f k = subst Demand3 (λ i r s fecf. sym (k ([], tt) (r, (at s, (fecf, tt)))) i) counted
+hearer-demand f k = over (hearerOf f) (hearer-demand-over f k)
 
 -- a too-long total reported by a wrapped field: whatever the data and the buffer, 65,529 octets of data get TOO_LONG
 plain-passes : (headerChecking (plain .«primary_header») ≡ done (plain .«primary_header»)) ×

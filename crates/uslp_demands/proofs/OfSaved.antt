@@ -1,0 +1,106 @@
+-- The promises of `uslp_saved` settle each call, and shut out the tempting wrong programs.
+use mathlib.Core.Path.{_≡_, refl, sym, ap, _∙_}
+use mathlib.Core.List.{List, [], _∷_, _++_}
+use mathlib.Core.Bool.{true}
+use Prim.Native.Nat.{ℕ, _^_, _<_, _≤_}
+use native.Mathlib.Omega.{arith}
+use lib.ListN.{length}
+use Rattle.uslp_kinds.specs.Outcome.{done, refused}
+use Rattle.uslp_kinds.specs.Answers.{paperDone, paperLength}
+use Rattle.uslp_kinds.proofs.Back.{back, one-to-one, length-back, leaving-one}
+use Rattle.uslp_kinds.specs.declared.LengthAnswer.the-variants as length-answer
+use Rattle.uslp_record.specs.Slots.{stateHolds}
+use Rattle.uslp_record.specs.Record.{Kept, keeping}
+use Rattle.uslp_record.specs.declared.Channel.{Channel}
+use Rattle.uslp_record.specs.declared.Totals.{Totals}
+use Rattle.uslp_record.specs.declared.SlotState.{SlotState}
+use Rattle.uslp_record.specs.declared.SlotState.the-variants.{Opened, Heard}
+use Rattle.uslp_record.specs.declared.ChannelRecord.{ChannelRecord}
+use Rattle.uslp_record.proofs.Back.{keeping-one}
+use Rattle.uslp_form.specs.Entries.{isOpened, isHeard, Each, Once}
+use Rattle.uslp_form.specs.Form.{rows, insert, sorted, form, GoodForm}
+use Rattle.uslp_form.specs.Form.Form.{one}
+use Rattle.uslp_form.specs.Saved.{saving, Restoring}
+use Rattle.uslp_form.proofs.Each.{Has}
+use Rattle.uslp_form.proofs.Rows.{Entry, restoring-one}
+use Rattle.uslp_form.proofs.Claims as claims
+use Rattle.uslp_form.proofs.Wrong as wrong
+use Rattle.uslp_saved.proofs as saved
+use Rattle.uslp_demands.specs.Promise.{Function, function, at, Allows, Settles, Program, Keeps}
+use Rattle.uslp_demands.proofs.Alike.{alike, done-alike}
+
+-- the functions, each with its promise
+abbrev pub fn-save : Function
+fn-save = function saved.save.Kinds.ps saved.save.Kinds.r saved.save.Reads.Pre saved.save.Reads.Learnt
+
+abbrev pub fn-restore : Function
+fn-restore = function saved.restore.Kinds.ps saved.restore.Kinds.r saved.restore.Reads.Pre saved.restore.Reads.Learnt
+
+pub save-settles : Settles fn-save
+save-settles = record {
+  total = λ κs a. tt;
+  same = λ κs a x y s t. let e = leaving-one (s ∙ sym t) in
+      alike (one-to-one paperLength (back length-answer.Done length-answer.Refused) length-back (e .0)) (λ i. (tt, (e .1 i, tt)));
+}
+
+pub restore-settles : Settles fn-restore
+restore-settles = record {
+  total = λ κs a. tt;
+  same = λ κs a x y s t. let e = keeping-one (restoring-one one s t) in
+      alike (λ i. record { answer = done-alike {x = x .0 .answer} {y = y .0 .answer} (e .0) i; next = e .1 i }) refl;
+}
+
+-- saves in slot order; says done and writes nothing
+abbrev zeros : List ℕ
+zeros = 0 ∷ 0 ∷ 0 ∷ 0 ∷ 0 ∷ 0 ∷ 0 ∷ 0 ∷ 0 ∷ 0 ∷ []
+
+pub save-unsorted : Allows fn-save ([], tt) (wrong.two, (at zeros, tt))
+    (length-answer.Done 10, (tt, (2 ∷ 0x12 ∷ 0x34 ∷ 5 ∷ 1 ∷ 0x12 ∷ 0x33 ∷ 63 ∷ 7 ∷ 0 ∷ [], tt))) → ⊥
+unfolding saving rows insert sorted
+save-unsorted e = let z : _≡_ {A = ℕ} 0x34 0x33 = cc in omega arith
+
+pub save-idle : Allows fn-save ([], tt) (wrong.two, (at zeros, tt)) (length-answer.Done 10, (tt, (zeros, tt))) → ⊥
+unfolding saving rows insert sorted
+save-idle e = let z : _≡_ {A = ℕ} 0 2 = cc in omega arith
+
+-- what a program leaves that restores, as the definition sees it
+abbrev pub restorerOf : Program fn-restore → ChannelRecord → List ℕ → Kept (Unit {0})
+restorerOf f r s = keeping (paperDone (f ([], tt) (r, (at s, tt)) .0 .answer)) (f ([], tt) (r, (at s, tt)) .0 .next)
+
+-- any program that keeps the promise of `restore`
+module _ (f : Program fn-restore) (keeps : Keeps fn-restore f) (r : ChannelRecord) where
+  restores : (s : List ℕ) → Restoring one r s (restorerOf f r s)
+  restores s = keeps ([], tt) (r, (at s, tt))
+
+  abbrev Refuses : List ℕ → Type 0
+  Refuses s = restorerOf f r s ≡ keeping (refused 18 []) r
+
+  -- octets left over
+  pub no-left-over : (s : List ℕ) (us hs : List SlotState) → GoodForm one s us hs → (x : ℕ) (t : List ℕ) → Refuses (s ++ (x ∷ t))
+  no-left-over s us hs g x t = claims.left-over one r s us hs x t _ g (restores (s ++ (x ∷ t)))
+
+  -- entries that fit their columns, but are not good
+  module _ (us hs : List SlotState) (a : Each (Entry one isOpened) us) (b : Each (Entry one isHeard) hs) where
+    abbrev octets : List ℕ
+    octets = form one us hs
+
+    pub no-nine : 8 < length (us ++ hs) → Refuses octets
+    no-nine = wrong.no-nine one r us hs a b _ (restores octets)
+
+    -- a channel twice, once in each section among the ways
+    pub no-twice : (Once (us ++ hs) → ⊥) → Refuses octets
+    no-twice = wrong.no-twice one r us hs a b _ (restores octets)
+
+    pub no-in-each : (k : Channel) (x y : SlotState) → Has us x → Has hs y → stateHolds k x ≡ true → stateHolds k y ≡ true → Refuses octets
+    no-in-each = wrong.no-in-each one r us hs a b _ (restores octets)
+
+    pub no-none-handed : (k : Channel) (w : ℕ) (t : Totals) → Has (us ++ hs) (Heard k w t) → t .«handed_on» ≡ 0 → Refuses octets
+    no-none-handed = wrong.no-none-handed one r us hs a b _ (restores octets)
+
+    pub no-far-last : (k : Channel) (w : ℕ) (t : Totals) → Has (us ++ hs) (Heard k w t) → 256 ^ w ≤ t .last → Refuses octets
+    no-far-last = wrong.no-far-last one r us hs a b _ (restores octets)
+
+  -- restoring that keeps old channels: what it leaves of a good form is the same, whatever record it found
+  pub no-old : (r′ : ChannelRecord) (s : List ℕ) (us hs : List SlotState) → GoodForm one s us hs → restorerOf f r s ≡ restorerOf f r′ s
+  no-old r′ s us hs g =
+      claims.restoring-good one r s us hs _ g (restores s) ∙ sym (claims.restoring-good one r′ s us hs _ g (keeps ([], tt) (r′, (at s, tt))))
