@@ -1,6 +1,7 @@
 #!/usr/bin/env python3
 """Tries demand 3 from outside: random senders, a link that loses, repeats, reorders and damages frames of several channels within
-the window, and a count of its own, over the places sent, of what was never handed on. Every answer of the program is compared.
+the window, restarts of the console, and a count of its own, over the places sent, of what was never handed on. Every answer of the
+program is compared, and every octet that it saves.
 
 Usage: histories.py PROGRAM [HISTORIES [FRAMES [SEED]]]     (PROGRAM is what runs uslp_run, as 'tools/run uslp_run'; default 100, 1000)
        histories.py --write DIR PROGRAM HISTORIES FRAMES SEED    writes the commands and the program's answers to DIR/stdin, DIR/stdout
@@ -35,9 +36,16 @@ class Sender:
         self.fecf = rng.randrange(2)
         self.header = (rng.randrange(2), rng.randrange(16), rng.randrange(2), rng.randrange(2), rng.randrange(4))
         self.data = {}
-        self.handed = set()
-        self.first = self.furthest = None
-        self.repeats = self.late = 0
+        self.counted = (frozenset(), None, None, 0, 0)
+
+    @property
+    def counted(self):
+        return frozenset(self.handed), self.first, self.furthest, self.repeats, self.late
+
+    @counted.setter
+    def counted(self, state):
+        handed, self.first, self.furthest, self.repeats, self.late = state
+        self.handed = set(handed)
 
     def frame(self, rng, place):
         if place not in self.data:
@@ -99,11 +107,60 @@ class Sender:
             return 0
         return (self.furthest - self.first + 1) - len(self.handed)
 
+    def totals(self):
+        return (self.start + self.furthest) % self.counts, len(self.handed), self.missing(), self.repeats, self.late
+
     def shown(self):
         if self.first is None:
             return f"0 {self.width} unheard"
-        last = (self.start + self.furthest) % self.counts
-        return f"0 {self.width} {last} {len(self.handed)} {self.missing()} {self.repeats} {self.late}"
+        return f"0 {self.width} " + " ".join(map(str, self.totals()))
+
+    def entry(self):
+        octets = self.key[0].to_bytes(2, "big") + bytes([self.key[1], self.width])
+        return octets if self.first is None else octets + b"".join(n.to_bytes(8, "big") for n in self.totals())
+
+
+def form(opened):
+    """The open channels as octets of form 1."""
+    senders = [opened[key] for key in sorted(opened)]
+    sections = [[s.entry() for s in senders if s.first is None], [s.entry() for s in senders if s.first is not None]]
+    return b"".join(bytes([len(entries)]) + b"".join(entries) for entries in sections)
+
+
+def is_form(octets):
+    """Whether octets are a good form 1, said by reading them."""
+    keys, rest = [], octets
+    for size in (4, 44):
+        if not rest or len(rest) < 1 + rest[0] * size:
+            return False
+        entries, rest = [rest[1 + k * size: 1 + (k + 1) * size] for k in range(rest[0])], rest[1 + rest[0] * size:]
+        section = [entry[:3] for entry in entries]
+        if section != sorted(set(section)):
+            return False
+        keys += section
+        for entry in entries:
+            totals = [int.from_bytes(entry[k: k + 8], "big") for k in range(4, size, 8)]
+            if entry[2] > 63 or not 1 <= entry[3] <= 7 or any(n >= 2**60 for n in totals[1:]):
+                return False
+            if totals and (totals[0] >= 256 ** entry[3] or totals[1] == 0):
+                return False
+    return not rest and len(keys) <= 8 and len(set(keys)) == len(keys)
+
+
+def spoiled(rng, octets):
+    """Octets near a form: cut, longer, or with one octet or one entry changed."""
+    octets = bytearray(octets)
+    kind = rng.randrange(4)
+    if kind == 0:
+        return bytes(octets[: rng.randrange(len(octets))])
+    if kind == 1:
+        return bytes(octets) + bytes(rng.randrange(256) for _ in range(rng.randint(1, 50)))
+    if kind == 2 and octets[0] > 0:
+        octets[5:5] = octets[1:5]
+        octets[0] += 1
+        return bytes(octets)
+    octets[rng.randrange(len(octets))] = rng.choice([0, 1, 8, 64, 255, rng.randrange(256)])
+    return bytes(octets)
 
 
 def damaged(rng, sender, frame):
@@ -127,7 +184,7 @@ def history(rng, frames):
     for _ in range(rng.randint(1, 6)):
         sender = Sender(rng, senders)
         senders[sender.key] = sender
-    opened, commands, answers = {}, [], []
+    opened, saved, commands, answers = {}, [], [], []
 
     def say(command, answer):
         commands.append(command)
@@ -136,6 +193,30 @@ def history(rng, frames):
     def ask(sender):
         say(f"show {sender.key[0]} {sender.key[1]}", sender.shown() if sender.key in opened else "13")
         say("total", "0 %d" % sum(s.missing() for s in opened.values()))
+
+    def restart():
+        """Saves, with room or without; restores what was saved, whatever happened since; or tries octets that are no good form."""
+        octets = form(opened)
+        kind = rng.randrange(4)
+        if kind == 0:
+            room = len(octets) + rng.randrange(3)
+            say(f"save {room}", f"0 {len(octets)} {octets.hex()}{'ee' * (room - len(octets))}")
+            saved.append((octets, {key: sender.counted for key, sender in opened.items()}))
+        elif kind == 1:
+            room = rng.randrange(len(octets))
+            say(f"save {room}", f"2 {room} {len(octets)}")
+        elif kind == 2 and saved:
+            octets, states = rng.choice(saved)
+            say(f"restore {octets.hex()}", "0")
+            opened.clear()
+            for key, sender in senders.items():
+                sender.counted = states.get(key, (frozenset(), None, None, 0, 0))
+                if key in states:
+                    opened[key] = sender
+        else:
+            octets = spoiled(rng, octets)
+            if not is_form(octets):
+                say(f"restore {octets.hex() or '-'}", "18")
 
     studied = next(iter(senders.values()))
     say(f"open {studied.key[0]} {studied.key[1]} {studied.width}", "0")
@@ -146,10 +227,12 @@ def history(rng, frames):
             if sender.key in opened:
                 say(f"close {sender.key[0]} {sender.key[1]}", "0")
                 del opened[sender.key]
-                sender.handed, sender.first, sender.furthest, sender.repeats, sender.late = set(), None, None, 0, 0
+                sender.counted = (frozenset(), None, None, 0, 0)
             else:
                 say(f"open {sender.key[0]} {sender.key[1]} {sender.width}", "0")
                 opened[sender.key] = sender
+        if rng.randrange(20) == 0:
+            restart()
         place = sender.next_place(rng)
         frame = sender.frame(rng, place)
         if rng.randrange(8) == 0:
@@ -196,7 +279,7 @@ def main():
         if wrong:
             sys.exit(f"history {k} of seed {seed}: {wrong}")
         steps += len(commands)
-        all_commands += commands + [f"close {c.split()[1]} {c.split()[2]}" for c in commands if c.startswith("open")]
+        all_commands += commands + ["restore 0000"]
     if out:
         with open(out + "/stdin", "w") as f:
             f.write("".join(c + "\n" for c in all_commands))

@@ -1,4 +1,4 @@
-// The commands that write: hw, fw, rw.
+// The commands that write: hw, fw, rw, save.
 use crate::headers::frame_of;
 use crate::headers::header_of;
 use crate::say_bad;
@@ -17,6 +17,7 @@ use uslp_kinds::UslpProtocolId;
 use uslp_octets::copy_octets;
 use uslp_primary_header::HeaderAnswer;
 use uslp_primary_header::PrimaryHeader;
+use uslp_record::ChannelRecord;
 use uslp_writer::ReservedAnswer;
 use uslp_writer::TransferFrameCreator;
 use uslp_writer::TransferFrameCreatorWithReservedData;
@@ -108,4 +109,11 @@ fn write_reserved(frame: TransferFrameCreator, data: &[u8], buf: &mut [u8]) -> L
 fn fill(area: TransferFrameCreatorWithReservedData, data: &[u8], buf: &mut [u8]) -> LengthAnswer {
     copy_octets(data, area.data_mut(buf));
     area.finish(buf)
+}
+
+pub fn save(values: &Values, channels: ChannelRecord) {
+    let mut room = fresh();
+    let buf = front(&mut room, values[BUFLEN] as usize);
+    let answer = uslp_saved::save(channels, buf);
+    say_written(answer, buf);
 }

@@ -1,4 +1,4 @@
-// The commands on the channel record: open, close, hear, show, total.
+// The commands on the channel record: open, close, hear, show, total, save, restore.
 use uslp_answers::channels::say_done;
 use uslp_answers::channels::say_heard;
 use uslp_answers::channels::say_state;
@@ -42,6 +42,15 @@ pub(crate) fn show(values: &Values, channels: ChannelRecord) -> ChannelRecord {
 pub(crate) fn total(channels: ChannelRecord) -> ChannelRecord {
     say_total(channels.total_missing());
     channels
+}
+
+pub(crate) fn save(values: &Values, channels: ChannelRecord) -> ChannelRecord {
+    uslp_answers::writing::save(values, channels);
+    channels
+}
+
+pub(crate) fn restore(octets: &[u8], channels: ChannelRecord) -> ChannelRecord {
+    recorded(uslp_saved::restore(channels, octets))
 }
 
 fn channel_of(values: &Values) -> Channel {

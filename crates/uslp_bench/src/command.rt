@@ -3,6 +3,8 @@ use crate::Bench;
 use crate::channels::close;
 use crate::channels::hear;
 use crate::channels::open;
+use crate::channels::restore;
+use crate::channels::save;
 use crate::channels::show;
 use crate::channels::total;
 use crate::places::no_values;
@@ -50,7 +52,11 @@ const SHOW: usize = 10;
 
 const TOTAL: usize = 11;
 
-const NOTHING: usize = 12;
+const SAVE: usize = 12;
+
+const RESTORE: usize = 13;
+
+const NOTHING: usize = 14;
 
 // Answers the line that is held. One that is too long is no command, as an empty one.
 pub(crate) fn answer(line: &mut [u8], bench: Bench) -> Bench {
@@ -88,7 +94,9 @@ open scid vc width
 close scid vc
 hear fecf hex
 show scid vc
-total";
+total
+save buflen
+restore hex";
     called(rows, line, values)
 }
 
@@ -145,6 +153,8 @@ fn act_on_channels(
         HEAR => hear(values, data, channels),
         SHOW => show(values, channels),
         TOTAL => total(channels),
+        SAVE => save(values, channels),
+        RESTORE => restore(data, channels),
         _ => channels,
     }
 }
