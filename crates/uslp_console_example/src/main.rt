@@ -1,11 +1,16 @@
-// A console: it hears frames of one channel, and knows which never came.
+// A console: it hears frames of one channel, and knows which never came, over a restart too.
 use uslp_hearing::FrameArrival;
 use uslp_hearing::HearAnswer;
 use uslp_hearing::handed_on;
 use uslp_hearing::hear;
+use uslp_kinds::DoneAnswer;
+use uslp_kinds::LengthAnswer;
 use uslp_record::Channel;
 use uslp_record::ChannelRecord;
 use uslp_record::TotalAnswer;
+use uslp_saved::MAX_FORM_LEN;
+use uslp_saved::restore;
+use uslp_saved::save;
 
 // Hears one buffer; the record that it answers is the one to go on with, unchanged on a refusal.
 fn take(channels: ChannelRecord, octets: &[u8]) -> ChannelRecord {
@@ -24,6 +29,26 @@ fn take(channels: ChannelRecord, octets: &[u8]) -> ChannelRecord {
     heard.next
 }
 
+// The octets outlive the record: written to a file before the console stops, and read from it when it starts.
+fn restart(channels: ChannelRecord) -> ChannelRecord {
+    let mut saved = [0u8; MAX_FORM_LEN];
+    match save(channels, &mut saved) {
+        LengthAnswer::Done(n) => {
+            let restored = restore(ChannelRecord::new(), &saved[..n]);
+            let answer = restored.answer;
+            match answer {
+                DoneAnswer::Done => say(b"restored, octets: ", n as u64),
+                DoneAnswer::Refused(refusal) => say(b"refused: ", refusal.number() as u64),
+            }
+            restored.next
+        }
+        LengthAnswer::Refused(refusal) => {
+            say(b"refused: ", refusal.number() as u64);
+            channels
+        }
+    }
+}
+
 fn main() {
     let opened = ChannelRecord::new().open_channel(
         Channel {
@@ -37,6 +62,8 @@ fn main() {
     channels = take(channels, b"\xC1\x23\x48\xA6\x00\x0A\x01\x07\xE4\x0A\xF0");
     channels = take(channels, b"\xC1\x23\x48\xA6\x00\x07\x01\x08\xE4\x0A\xF1");
     channels = take(channels, b"\xC1\x23\x48\xA6\x00\x0A\x01\x0B\xE4\x0A\xF3");
+    channels = restart(channels);
+    channels = take(channels, b"\xC1\x23\x48\xA6\x00\x0A\x01\x0D\xE4\x0A\xF5");
     match channels.total_missing() {
         TotalAnswer::Done(missing) => say(b"missing in all: ", missing),
         TotalAnswer::Refused(refusal) => say(b"refused: ", refusal.number() as u64),

@@ -1,4 +1,4 @@
--- No total is full where fewer than 2^60 frames arrive and fewer than 2^60 are lost: said of the places alone.
+-- No total is full where fewer than 2^60 frames arrive and fewer than 2^60 are lost, over restarts too: said of the places alone.
 use mathlib.Core.Path.{_≡_, sym, _∙_, ap, subst}
 use mathlib.Core.Bool.{Bool, cond}
 use mathlib.Core.List.{List, [], _∷_, _++_, map, append-nil, append-assoc}
@@ -14,9 +14,12 @@ use Rattle.uslp_record.specs.declared.SlotState.the-variants.{Opened}
 use Rattle.uslp_record.specs.declared.ChannelRecord.{ChannelRecord}
 use Rattle.uslp_hearing.specs.Hearing.{frameHearing}
 use Rattle.uslp_counting.specs.Places.{furthest, aheadOf, leaders, Window, lost}
-use Rattle.uslp_counting.specs.History.{called, Roomy, Unfilled, Sender, Event, callOf, placesOf, places}
+use Rattle.uslp_counting.specs.History.{Handing, called, Roomy, Unfilled, Sender, Event, callOf, placesOf, places}
 use Rattle.uslp_counting.specs.History.Event.{arrives, damaged, elsewhere, misfits, opened, closed, again}
+use Rattle.uslp_counting.specs.Restarts.{Leads}
+use Rattle.uslp_counting.specs.Restarts.Leads.{ends, next, restart}
 use Rattle.uslp_counting.proofs.Stands.{Stands, stands-opened}
+use Rattle.uslp_counting.proofs.Restarts.{restart-keeps}
 use Rattle.uslp_counting.proofs.Others.{roomy-damaged, roomy-elsewhere, roomy-misfit}
 use Rattle.uslp_counting.proofs.Arrival.{room-out}
 use Rattle.uslp_counting.proofs.Lost.{furthest-more, furthest-new, furthest-old, lost-more, ahead-yes, ahead-no}
@@ -85,6 +88,31 @@ module _ {K : Channel} {width : ℕ} {fecf : Bool} (S : Sender K width fecf) whe
           rooms es (q .1) (seenWith e seen) (h .leading) (h .state) (h .stands) (h .counting) (w .1) (omega (arith, a, b, few))
               (subst (λ (l : List ℕ). lost l ≤ most) (sym (h .leads (places es))) less),
         )
+
+    -- the event that follows a run
+    next-roomy : {es : List (Event K width)} {hs : List Handing} {r q : ChannelRecord} → Leads frameHearing S r es hs q
+        → (seen before : List ℕ) (t : SlotState) → Stands K r t → Counting S seen before t
+        → (e : Event K width) → Window (256 ^ width / 2) seen (places (es ++ (e ∷ []))) → length (places (es ++ (e ∷ []))) + length seen ≤ most
+        → lost (before ++ leaders seen (places (es ++ (e ∷ [])))) ≤ most → Roomy frameHearing K q (callOf S e)
+    unfolding places
+    next-roomy (ends {r = r}) seen before t at c e near few less =
+        let w = window-first e seen [] near in
+        roomy e r at c (w .0) [] (omega (arith, length-append (placesOf e) [], length-append (placesOf e) seen, few)) less
+    next-roomy (next {r = r} {es = es} d room rest) seen before t at c e near few less =
+        let ps = places (es ++ (e ∷ [])) in
+        let w = window-first d seen ps near in
+        let h = went S lo hi d r at c (w .0) room in
+        next-roomy rest (seenWith d seen) (h .leading) (h .state) (h .stands) (h .counting) e (w .1)
+        (omega (arith, length-append (placesOf d) ps, length-append (placesOf d) seen, few))
+        (subst (λ (l : List ℕ). lost l ≤ most) (sym (h .leads ps)) less)
+    next-roomy (restart g rest) seen before t at c e near few less = next-roomy rest seen before t (restart-keeps g K t at) c e near few less
+
+    pub unfilled-over : (r₀ r q : ChannelRecord) → length (r₀ .slots) ≡ 8 → opening r₀ K width ≡ keeping (done tt) r
+        → {es : List (Event K width)} {hs : List Handing} → Leads frameHearing S r es hs q
+        → (e : Event K width) → Window (256 ^ width / 2) [] (places (es ++ (e ∷ [])))
+        → length (places (es ++ (e ∷ []))) < 2 ^ 60 → lost (leaders [] (places (es ++ (e ∷ [])))) < 2 ^ 60 → Roomy frameHearing K q (callOf S e)
+    unfilled-over r₀ r q long begins l e near few less =
+        next-roomy l [] [] (Opened K width) (stands-opened K width r₀ r long begins) quiet e near (omega arith) (omega arith)
 
     pub unfilled : (r₀ r : ChannelRecord) → length (r₀ .slots) ≡ 8 → opening r₀ K width ≡ keeping (done tt) r
         → (es : List (Event K width)) → Window (256 ^ width / 2) [] (places es) → length (places es) < 2 ^ 60 → lost (leaders [] (places es)) < 2 ^ 60

@@ -9,7 +9,8 @@ use lib.ListN.{length, drop, replicate, length-append}
 use borrow.Author.Tests.{le-ltb, lt-ltb}
 use Rattle.uslp_octets.specs.Octets.{valueOf, pack}
 use Rattle.uslp_kinds.specs.Outcome.{done, refused, leaving}
-use Rattle.uslp_kinds.proofs.Outcomes.{not-done}
+use Rattle.uslp_kinds.proofs.Back.{leaving-one}
+use Rattle.uslp_kinds.proofs.Outcomes.{not-done, done-one}
 use Rattle.uslp_record.proofs.Back.{keeping-one}
 use Rattle.uslp_record.specs.Slots.{slotOf}
 use Rattle.uslp_record.specs.Record.{Kept, keeping, showing, consoleTotal}
@@ -37,6 +38,17 @@ module _ (f : Form) (r : ChannelRecord) (b : List ℕ) where
   pub saving-short : length b < length (formOf f r) → saving f r b ≡ leaving (refused 2 (length b ∷ length (formOf f r) ∷ [])) b
   unfolding saving
   saving-short h = simp (lt-ltb (length b) (length (formOf f r)) h)
+
+  -- what was written stands in the buffer
+  pub saving-fits : {n : ℕ} {t : List ℕ} → leaving (done n) t ≡ saving f r b → n ≤ length t
+  saving-fits {n} {t} e = go (decLt (length b) (length (formOf f r)))
+    where
+      go : Dec (length b < length (formOf f r)) → n ≤ length t
+      go (yes h) = absurd (not-done (sym (leaving-one (e ∙ saving-short h) .0)))
+      go (no h) =
+          let d = leaving-one (e ∙ saving-done (omega arith)) in
+          let z = done-one (d .0) in
+          omega (arith, z, ap length (d .1), length-append (formOf f r) (drop (length (formOf f r)) b))
 
 -- restoring: done exactly if the octets are a good form, and then with the record of its entries (`restores-done` is the way back)
 module _ (f : Form) (r : ChannelRecord) (s : List ℕ) where

@@ -24,9 +24,9 @@ mod saving;
 pub const MAX_FORM_LEN: usize = 354;
 
 // An entry in octets: a channel that was opened but not heard, and one that was heard.
-pub const UNHEARD_LEN: usize = 4;
+pub(crate) const UNHEARD_LEN: usize = 4;
 
-pub const HEARD_LEN: usize = 44;
+pub(crate) const HEARD_LEN: usize = 44;
 
 // Writes the record as octets of form 1 to the front of `to`. Refuses SHORT_TARGET.
 pub fn save(channels: ChannelRecord, to: &mut [u8]) -> LengthAnswer
