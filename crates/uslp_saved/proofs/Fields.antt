@@ -6,9 +6,9 @@ use mathlib.Core.List.{List, [], _∷_}
 use native.Mathlib.Omega.{arith}
 use native.Mathlib.Nat.{add-zero}
 use lib.ListN.{getD, drop}
-use lib.Seq.{getD-drop, drop-drop}
+use lib.Seq.{drop-drop}
 use Rattle.uslp_octets.specs.Octets.{AreOctets, Field, bitsIn, unpack, word}
-use Rattle.uslp_octets.proofs.Laws.{field-eq, unpack-cons, word-drop}
+use Rattle.uslp_octets.proofs.Laws.{field-eq, unpack-cons, are-drop, word-drop}
 use Rattle.uslp_record.specs.declared.SlotState.the-variants.{Opened, Heard}
 use Rattle.uslp_form.specs.Form.{totalsRow}
 use Rattle.uslp_form.specs.Form.Form.{one}
@@ -19,7 +19,7 @@ module _ (s : List ℕ) (oct : AreOctets s) (at : ℕ) where
   from k = drop k (drop at s)
 
   oct-at : (k : ℕ) → AreOctets (from k)
-  oct-at k i = rw (getD-drop k (drop at s) i 0, getD-drop at s (k + i) 0) (oct (at + (k + i)))
+  oct-at k = are-drop k (drop at s) (are-drop at s oct)
 
   -- a field of k octets that stands j octets behind the front, before a row of m
   field-at : (name : String) (j k m : ℕ) (fs : List Field) → bitsIn fs ≡ 8 * m

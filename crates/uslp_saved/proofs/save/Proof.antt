@@ -1,14 +1,25 @@
 -- Both sections are put, and copied where there is room.
 use borrow.Author.Needs.{needs}
-use mathlib.Core.Path.{_∙_, ap}
+use mathlib.Core.Path.{_≡_, _∙_, ap}
 use Prim.Native.Nat.{ℕ, _-_}
 use native.Mathlib.Nat.{sub-zero}
 use native.Mathlib.Omega.{arith}
-use lib.ListN.{take}
+use lib.ListN.{length, take}
+use Rattle.uslp_form.specs.Form.{formOf}
+use Rattle.uslp_form.specs.Form.Form.{one}
+use Rattle.uslp_saved.specs.Choice.{written}
 use Rattle.uslp_record.proofs.Seek.{long-of}
 use Rattle.uslp_saved.proofs.Walk.{both-sections, cells, save-short, save-done, sections-fit}
 use Rattle.uslp_saved.proofs.save.Statement.{statement}
 use Rattle.uslp_saved.proofs.save.Tie as tie
+
+-- both sections stand in what was put
+put-all : (p : tie.After-put-section2) → let o = p .put-section2 .result in
+    let r = p .before .before .before .before .args .channels in
+    (o .len ≡ length (formOf one r)) × (written o ≡ formOf one r)
+put-all p =
+    both-sections _ _ _ (p .before .before .before .before .args .channels) (p .before .before .empty .ensures) (p .before .put-section .ensures)
+    (p .put-section2 .ensures)
 
 put-section-requires : tie.Need-put-section-requires
 put-section-requires c κs =
@@ -30,21 +41,16 @@ returns : tie.Need-returns
 returns c =
     let p = c .before .before in
     let s = p .before .before .before .before in
-    let b = both-sections _ _ _ (s .args .channels) (p .before .before .empty .ensures) (p .before .put-section .ensures) (p .put-section2 .ensures) in
-    save-short (s .args .channels) (s .args .to .now) _ (b .0) (omega arith)
+    save-short (s .args .channels) (s .args .to .now) _ (put-all p .0) (omega arith)
 
 part-copy-octets-end : tie.Need-part-copy-octets-end
-part-copy-octets-end c =
-    let p = c .before .before .before in
-    let s = p .before .before .before .before in
-    let b = both-sections _ _ _ (s .args .channels) (p .before .before .empty .ensures) (p .before .put-section .ensures) (p .put-section2 .ensures) in
-    cells _ _ b
+part-copy-octets-end c = cells _ _ (put-all (c .before .before .before))
 
 returns-2 : tie.Need-returns-2
 returns-2 c =
     let p = c .before .before .before .before .before .before .before .before in
     let s = p .before .before .before .before in
-    let b = both-sections _ _ _ (s .args .channels) (p .before .before .empty .ensures) (p .before .put-section .ensures) (p .put-section2 .ensures) in
+    let b = put-all p in
     let o = p .put-section2 .result in
     save-done (s .args .channels) (s .args .to .now) (o .len) (b .0) (take (o .len - 0) (o .octets)) _ (omega arith)
     (ap (λ (k : ℕ). take k (o .octets)) (sub-zero (o .len)) ∙ b .1) (c .before .before .copy-octets .ensures)

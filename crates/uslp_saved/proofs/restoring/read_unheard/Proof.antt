@@ -7,9 +7,10 @@ use Rattle.uslp_saved.proofs.restoring.read_unheard.Tie as tie
 
 returns : tie.Need-returns
 returns c =
-    let s = c .before .before .before .before .before .before in
-    unheard-at (s .args .from .now) (λ i. omega (arith, c .before .before .before .before .before .shared-slice-known .given i)) (s .args .at) _
-    (c .before .before .be-u16 .ensures)
+    let craft = c .before .before in
+    let known = craft .before .before .before in
+    let a = known .before .args in
+    unheard-at (a .from .now) (λ i. omega (arith, known .shared-slice-known .given i)) (a .at) _ (craft .be-u16 .ensures)
 
 pub read-unheard-spec : {M : Type 1} → statement M
 read-unheard-spec =
