@@ -1,12 +1,12 @@
 -- Every record that calls made, restorings among them: its console total, and that a saving of it comes back.
 use mathlib.Core.Path.{_≡_, sym, subst}
 use mathlib.Core.Bool.{Bool}
-use mathlib.Core.List.{List, _++_, map}
+use mathlib.Core.List.{List, [], _∷_, _++_, map}
 use Prim.Native.Nat.{ℕ, _≤_}
 use lib.ListN.{length, drop}
 use lib.Seq.{take-append-seam}
 use Rattle.uslp_kinds.specs.Outcome.{done, leaving}
-use Rattle.uslp_record.specs.Slots.{stateAt}
+use Rattle.uslp_record.specs.Slots.{stateAt, emptyRecord}
 use Rattle.uslp_record.specs.Record.{Kept, keeping, consoleTotal}
 use Rattle.uslp_record.specs.Made.{Made}
 use Rattle.uslp_record.specs.declared.Channel.{Channel}
@@ -20,7 +20,7 @@ use Rattle.uslp_form.proofs.Rows.{sound-fits, restores-done}
 use Rattle.uslp_form.proofs.Claims.{saving-done, Back, restores-saved, comes-back}
 use Rattle.uslp_hearing.specs.Hearing.{frameHearing}
 use Rattle.uslp_hearing.proofs.Ways.{made-hearing}
-use Rattle.uslp_counting.specs.History.{recordOf, Handing, called, Sender, Event, Call, callOf}
+use Rattle.uslp_counting.specs.History.{recordOf, Handing, called, run, Sender, Event, Call, callOf}
 use Rattle.uslp_counting.specs.History.Call.{hears as hearing, opens as opening, closes as closing}
 use Rattle.uslp_counting.specs.Console.{missingOverOpen, Given, GivenAll}
 use Rattle.uslp_counting.specs.Restarts.{Wrote, Restart, Leads, Called}
@@ -68,12 +68,27 @@ called-back {r} c f b room found =
       back = comes-back f r made found;
     }
 
--- a call leaves such a record, and so does a restoring that is done, whatever record it found
+-- a call leaves such a record
 called-call : (K : Channel) {r : ChannelRecord} (c : Call) → Given c → Called r → Called (called frameHearing K r c .1)
 called-call K (hearing s fecf) given c = hears s fecf given c
 called-call K (opening k w) given c = opens k w given c
 called-call K (closing k) given c = closes k c
 
+-- so a history of calls from the empty record leads to one
+module _ (K : Channel) where
+  called-from : (cs : List Call) {r : ChannelRecord} → Called r → GivenAll cs → Called (run frameHearing K r cs)
+  unfolding run
+  called-from [] c given = c
+  called-from (x ∷ xs) c given = called-from xs (called-call K x (given .0) c) (given .1)
+
+  pub made-run : (cs : List Call) → GivenAll cs → Made (run frameHearing K emptyRecord cs)
+  made-run cs given = made-called (called-from cs new given)
+
+  pub console-run : (cs : List Call) → GivenAll cs
+      → consoleTotal (run frameHearing K emptyRecord cs) ≡ done (missingOverOpen (run frameHearing K emptyRecord cs))
+  console-run cs given = console-called (called-from cs new given)
+
+-- and so does a restoring that is done, whatever record it found
 called-restored : {f : Form} {found q : ChannelRecord} {s : List ℕ} → Restoring f found s (keeping (done tt) q) → Called q
 called-restored {f} {s} h = let d = restores-done f h in subst Called (d .is) (restores f s (good (d .unheard) (d .heard) (d .is-good)) new)
 

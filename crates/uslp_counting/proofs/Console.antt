@@ -8,7 +8,7 @@ use native.Mathlib.Decide.{decLt}
 use native.Mathlib.Nat.{zero-add, add-zero}
 use lib.ListN.{length, getD}
 use Rattle.uslp_kinds.specs.Outcome.{done}
-use Rattle.uslp_record.specs.Slots.{stateHolds, holds, find, slotOf, stateAt, emptyRecord}
+use Rattle.uslp_record.specs.Slots.{stateHolds, holds, find, slotOf, stateAt}
 use Rattle.uslp_record.specs.Record.{missingOf, missingIn, tooMuchIn, consoleTotal}
 use Rattle.uslp_record.specs.declared.Channel.{Channel}
 use Rattle.uslp_record.specs.declared.SlotState.{SlotState}
@@ -16,14 +16,11 @@ use Rattle.uslp_record.specs.declared.SlotState.the-variants.{Closed, Opened, H
 use Rattle.uslp_record.specs.declared.Slot.{Slot}
 use Rattle.uslp_record.specs.declared.ChannelRecord.{ChannelRecord}
 use Rattle.uslp_record.proofs.Seek.{finds}
-use Rattle.uslp_counting.specs.History.{missingFor, called, run, Call}
-use Rattle.uslp_counting.specs.History.Call.{hears, opens, closes}
+use Rattle.uslp_counting.specs.History.{missingFor}
 use Rattle.uslp_record.specs.Made.{Distinct, Made}
-use Rattle.uslp_counting.specs.Console.{channelIn, openIn, sumOver, missingOverOpen, Given, GivenAll}
+use Rattle.uslp_counting.specs.Console.{channelIn, openIn, sumOver, missingOverOpen}
 use Rattle.uslp_record.proofs.Slots.{true-false, same-self, seek-passes, seek-none}
-use Rattle.uslp_record.proofs.Keeps.{total-fits, made-empty, made-opening, made-closing}
-use Rattle.uslp_hearing.specs.Hearing.{frameHearing}
-use Rattle.uslp_hearing.proofs.Ways.{made-hearing}
+use Rattle.uslp_record.proofs.Keeps.{total-fits}
 
 module _ (r : ChannelRecord) (long : length (r .slots) ≡ 8) (once : Distinct r) where
   -- the search finds the one slot that holds the channel
@@ -65,25 +62,6 @@ module _ (r : ChannelRecord) (long : length (r .slots) ≡ 8) (once : Distinct r
   unfolding consoleTotal
   console-counts e = rw e (ap done console-sum)
 
--- so asking for the total of such a record is done, and gives the sum
+-- no total of a record that calls made is above the largest: asking is done, and gives the sum
 pub console-made : (r : ChannelRecord) → Made r → consoleTotal r ≡ done (missingOverOpen r)
 console-made r made = console-counts r (made .eight) (made .once) (total-fits r made)
-
--- every call keeps it, and so does every history from the empty record
-module _ (K : Channel) where
-  pub made-call : (r : ChannelRecord) → Made r → (c : Call) → Given c → Made (called frameHearing K r c .1)
-  made-call r made (hears s fecf) given = made-hearing r made s fecf given
-  made-call r made (opens k w) given = made-opening r made k w given
-  made-call r made (closes k) given = made-closing r made k
-
-  made-from : (cs : List Call) (r : ChannelRecord) → Made r → GivenAll cs → Made (run frameHearing K r cs)
-  unfolding run
-  made-from [] r made given = made
-  made-from (c ∷ cs) r made given = made-from cs (called frameHearing K r c .1) (made-call r made c (given .0)) (given .1)
-
-  pub made-run : (cs : List Call) → GivenAll cs → Made (run frameHearing K emptyRecord cs)
-  made-run cs = made-from cs emptyRecord made-empty
-
-  pub console-run : (cs : List Call) → GivenAll cs
-      → consoleTotal (run frameHearing K emptyRecord cs) ≡ done (missingOverOpen (run frameHearing K emptyRecord cs))
-  console-run cs given = console-made (run frameHearing K emptyRecord cs) (made-run cs given)

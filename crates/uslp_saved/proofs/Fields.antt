@@ -9,10 +9,11 @@ use lib.ListN.{getD, drop}
 use lib.Seq.{drop-drop}
 use Rattle.uslp_octets.specs.Octets.{AreOctets, Field, bitsIn, unpack, word}
 use Rattle.uslp_octets.proofs.Laws.{field-eq, unpack-cons, are-drop, word-drop}
+use Rattle.uslp_record.specs.declared.Channel.{Channel}
 use Rattle.uslp_record.specs.declared.SlotState.the-variants.{Opened, Heard}
 use Rattle.uslp_form.specs.Form.{totalsRow}
 use Rattle.uslp_form.specs.Form.Form.{one}
-use Rattle.uslp_saved.specs.Reading.{noTotals, openedBy, heardBy, unheardIn, heardIn}
+use Rattle.uslp_saved.specs.Reading.{noTotals, channelAt, openedBy, heardBy, unheardIn, heardIn}
 
 module _ (s : List ℕ) (oct : AreOctets s) (at : ℕ) where
   abbrev from : ℕ → List ℕ
@@ -33,15 +34,11 @@ module _ (s : List ℕ) (oct : AreOctets s) (at : ℕ) where
   octet : (j : ℕ) → word (at + j) 1 s ≡ getD s (at + j) 0
   octet j = omega (arith, ap (λ (n : ℕ). getD s n 0) (add-zero (at + j)))
 
-  craft : (x : ℕ) → x ≡ getD s at 0 * 256 + getD s (at + 1) 0 → x ≡ word (at + 0) 2 s
-  craft x e = omega (
-    arith,
-    e,
-    ap (λ (n : ℕ). getD s (n + 0) 0) (add-zero at),
-    ap (λ (n : ℕ). getD s n 0) (add-zero at),
-    ap (λ (n : ℕ). getD s (n + 1) 0)
-        (add-zero at),
-  )
+  pub channel-at : (x : ℕ) → x ≡ getD s at 0 * 256 + getD s (at + 1) 0
+      → record { «spacecraft_id» = x; «vc_id» = getD s (at + 2) 0 } ≡ channelAt one at s
+  channel-at x e =
+      let craft : x ≡ word at 2 s = omega (arith, e, ap (λ (n : ℕ). getD s n 0) (add-zero at)) in
+      λ i. record { «spacecraft_id» = craft i; «vc_id» = sym (octet 2) i }
 
   totals-fields : unpack (totalsRow noTotals) (from 4) ≡ totalsRow (record {
     last = word (at + 4) 8 s;
@@ -60,23 +57,22 @@ module _ (s : List ℕ) (oct : AreOctets s) (at : ℕ) where
   -- the four octets that say the channel and its width, before a row of m
   channel-fields : (m : ℕ) (fs : List Field) → bitsIn fs ≡ 8 * m
       → unpack (("spacecraft", 16, 0) ∷ ("channel", 8, 0) ∷ ("width", 8, 0) ∷ fs) (from 0)
-      ≡ ("spacecraft", 16, word (at + 0) 2 s) ∷ ("channel", 8, word (at + 2) 1 s) ∷ ("width", 8, word (at + 3) 1 s) ∷ unpack fs (from 4)
+      ≡ ("spacecraft", 16, word at 2 s) ∷ ("channel", 8, word (at + 2) 1 s) ∷ ("width", 8, word (at + 3) 1 s) ∷ unpack fs (from 4)
   channel-fields m fs whole =
       field-at "spacecraft" 0 2 (1 + (1 + m)) (("channel", 8, 0) ∷ ("width", 8, 0) ∷ fs) (omega arith)
-      ∙ field-eq refl (field-at "channel" 2 1 (1 + m) (("width", 8, 0) ∷ fs) (omega arith)
+      ∙ field-eq (ap (λ (n : ℕ). word n 2 s) (add-zero at)) (field-at "channel" 2 1 (1 + m) (("width", 8, 0) ∷ fs) (omega arith)
       ∙ field-eq refl (field-at "width" 3 1 m fs whole))
 
-  pub unheard-at : (x : ℕ) → x ≡ getD s at 0 * 256 + getD s (at + 1) 0
-      → Opened (record { «spacecraft_id» = x; «vc_id» = getD s (at + 2) 0 }) (getD s (at + 3) 0) ≡ unheardIn one (drop at s)
-  unheard-at x e =
-      (λ i. Opened (record { «spacecraft_id» = craft x e i; «vc_id» = sym (octet 2) i }) (sym (octet 3) i))
-      ∙ ap (openedBy one) (sym (channel-fields 0 [] refl))
+  module _ (k : Channel) (found : k ≡ channelAt one at s) where
+    pub unheard-at : Opened k (getD s (at + 3) 0) ≡ unheardIn one (drop at s)
+    unheard-at =
+        (λ i. Opened (found i) (sym (octet 3) i))
+        ∙ ap (openedBy one) (sym (channel-fields 0 [] refl))
 
-  pub heard-at : (x l h m p t : ℕ) → x ≡ getD s at 0 * 256 + getD s (at + 1) 0
-      → l ≡ word (at + 4) 8 s → h ≡ word (at + 12) 8 s → m ≡ word (at + 20) 8 s → p ≡ word (at + 28) 8 s → t ≡ word (at + 36) 8 s
-      → Heard (record { «spacecraft_id» = x; «vc_id» = getD s (at + 2) 0 }) (getD s (at + 3) 0)
-      (record { last = l; «handed_on» = h; missing = m; repeats = p; late = t }) ≡ heardIn one (drop at s)
-  heard-at x l h m p t e el eh em ep et =
-      (λ i. Heard (record { «spacecraft_id» = craft x e i; «vc_id» = sym (octet 2) i }) (sym (octet 3) i)
-      (record { last = el i; «handed_on» = eh i; missing = em i; repeats = ep i; late = et i }))
-      ∙ ap (heardBy one) (sym (channel-fields 40 (totalsRow noTotals) refl ∙ field-eq refl (field-eq refl (field-eq refl totals-fields))))
+    pub heard-at : (l h m p t : ℕ)
+        → l ≡ word (at + 4) 8 s → h ≡ word (at + 12) 8 s → m ≡ word (at + 20) 8 s → p ≡ word (at + 28) 8 s → t ≡ word (at + 36) 8 s
+        → Heard k (getD s (at + 3) 0) (record { last = l; «handed_on» = h; missing = m; repeats = p; late = t }) ≡ heardIn one (drop at s)
+    heard-at l h m p t el eh em ep et =
+        (λ i. Heard (found i) (sym (octet 3) i)
+        (record { last = el i; «handed_on» = eh i; missing = em i; repeats = ep i; late = et i }))
+        ∙ ap (heardBy one) (sym (channel-fields 40 (totalsRow noTotals) refl ∙ field-eq refl (field-eq refl (field-eq refl totals-fields))))

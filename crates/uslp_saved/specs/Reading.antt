@@ -5,7 +5,7 @@ use mathlib.Core.Bool.{Bool, true, false}
 use mathlib.Core.List.{List, [], _∷_, _++_}
 use Prim.Native.Nat.{ℕ, zero, suc, _+_, _*_, _-_, _<_, _≤_}
 use lib.ListN.{length, drop, getD}
-use Rattle.uslp_octets.specs.Octets.{Field, unpack, named}
+use Rattle.uslp_octets.specs.Octets.{Field, word, unpack, named}
 use Rattle.uslp_record.specs.Slots.{stateHolds, find, stateAt}
 use Rattle.uslp_record.specs.Made.{Sound}
 use Rattle.uslp_record.specs.declared.Channel.{Channel}
@@ -33,6 +33,10 @@ heardLong one = 44
 -- what a row says
 abbrev pub channelIn : Form → List Field → Channel
 channelIn one fs = record { «spacecraft_id» = named "spacecraft" fs; «vc_id» = named "channel" fs }
+
+-- the same where it stands, from a place on
+abbrev pub channelAt : Form → ℕ → List ℕ → Channel
+channelAt one at s = record { «spacecraft_id» = word at 2 s; «vc_id» = word (at + 2) 1 s }
 
 abbrev pub totalsIn : List Field → Totals
 totalsIn fs =

@@ -21,7 +21,7 @@ ghost use Rattle.uslp_octets.specs.Octets.{word};
 ghost use Rattle.uslp_record.specs.Made.{Openable, Tallied, Sound};
 ghost use Rattle.uslp_form.specs.Form.{restored};
 ghost use Rattle.uslp_form.specs.Form.Form.{one};
-ghost use Rattle.uslp_saved.specs.Reading.{unheardIn, heardIn, firstCount, secondCount, entriesOfOctets, Shaped, Tells, FirstAt, Above, Admitted, AllAdmitted};
+ghost use Rattle.uslp_saved.specs.Reading.{channelAt, unheardIn, heardIn, firstCount, secondCount, entriesOfOctets, Shaped, Tells, FirstAt, Above, Admitted, AllAdmitted};
 
 // At most eight entries, and as many octets as the two counts say.
 pub(crate) fn has_form(from: &[u8]) -> bool
@@ -73,10 +73,7 @@ fn read_unheard(from: &[u8], at: usize) -> SlotState
     requires { ⌜ at + 4 ≤ length (now from) ⌝ }
     ensures { λ r. ⌜ r ≡ unheardIn one (drop at (now (from .entry))) ⌝ }
 {
-    let channel = Channel {
-        spacecraft_id: be_u16(from[at], from[at + 1]),
-        vc_id: from[at + 2],
-    };
+    let channel = channel_at(from, at);
     SlotState::Opened {
         channel,
         width: from[at + 3],
@@ -87,10 +84,7 @@ fn read_heard(from: &[u8], at: usize) -> SlotState
     requires { ⌜ at + 44 ≤ length (now from) ⌝ }
     ensures { λ r. ⌜ r ≡ heardIn one (drop at (now (from .entry))) ⌝ }
 {
-    let channel = Channel {
-        spacecraft_id: be_u16(from[at], from[at + 1]),
-        vc_id: from[at + 2],
-    };
+    let channel = channel_at(from, at);
     let totals = Totals {
         last: eight_at(from, at + 4),
         handed_on: eight_at(from, at + 12),
@@ -102,6 +96,16 @@ fn read_heard(from: &[u8], at: usize) -> SlotState
         channel,
         width: from[at + 3],
         totals,
+    }
+}
+
+fn channel_at(from: &[u8], at: usize) -> Channel
+    requires { ⌜ at + 4 ≤ length (now from) ⌝ }
+    ensures { λ r. ⌜ r ≡ channelAt one at (now (from .entry)) ⌝ }
+{
+    Channel {
+        spacecraft_id: be_u16(from[at], from[at + 1]),
+        vc_id: from[at + 2],
     }
 }
 

@@ -1,30 +1,26 @@
 -- The forty-four octets of an entry that was heard.
+use borrow.Author.Needs.{needs}
 use native.Mathlib.Omega.{arith}
 use Rattle.uslp_saved.proofs.Fields.{heard-at}
-use borrow.Author.Needs.{needs}
 use Rattle.uslp_saved.proofs.restoring.read_heard.Statement.{statement}
 use Rattle.uslp_saved.proofs.restoring.read_heard.Tie as tie
 
 returns : tie.Need-returns
 returns c =
     let e = c .before in
-    let craft = e .before .before .before .before .before .before in
-    let known = craft .before .before .before in
+    let first = e .before .before .before .before in
+    let channel = first .before in
+    let known = channel .before in
     let a = known .before .args in
-    heard-at (a .from .now) (λ i. omega (arith, known .shared-slice-known .given i)) (a .at) _ _ _ _ _ _ (craft .be-u16 .ensures)
-    (e .before .before .before .before .eight-at .ensures) (e .before .before .before .eight-at2 .ensures) (e .before .before .eight-at3 .ensures)
+    heard-at (a .from .now) (λ i. omega (arith, known .shared-slice-known .given i)) (a .at) _ (channel .channel-at .ensures) _ _ _ _ _
+    (first .eight-at .ensures) (e .before .before .before .eight-at2 .ensures) (e .before .before .eight-at3 .ensures)
     (e .before .eight-at4 .ensures) (e .eight-at5 .ensures)
 
 pub read-heard-spec : {M : Type 1} → statement M
 read-heard-spec =
     tie.close
     (tie.spec
-    (λ c. search needs)
-    (λ c. search needs)
-    (λ c. search needs)
     (λ c κs. search needs)
-    (λ c. search needs)
-    (λ c. search needs)
     (λ c. search needs)
     (λ c κs. search needs)
     (λ c. search needs)
@@ -35,6 +31,6 @@ read-heard-spec =
     (λ c κs. search needs)
     (λ c. search needs)
     (λ c κs. search needs)
-    (λ c. omega arith)
-    (λ c. omega arith)
+    (λ c. search needs)
+    (λ c. search needs)
     returns)

@@ -7,21 +7,10 @@ use Rattle.uslp_saved.proofs.restoring.read_unheard.Tie as tie
 
 returns : tie.Need-returns
 returns c =
-    let craft = c .before .before in
-    let known = craft .before .before .before in
+    let channel = c .before in
+    let known = channel .before in
     let a = known .before .args in
-    unheard-at (a .from .now) (λ i. omega (arith, known .shared-slice-known .given i)) (a .at) _ (craft .be-u16 .ensures)
+    unheard-at (a .from .now) (λ i. omega (arith, known .shared-slice-known .given i)) (a .at) _ (channel .channel-at .ensures)
 
 pub read-unheard-spec : {M : Type 1} → statement M
-read-unheard-spec =
-    tie.close
-    (tie.spec
-    (λ c. search needs)
-    (λ c. search needs)
-    (λ c. search needs)
-    (λ c κs. search needs)
-    (λ c. search needs)
-    (λ c. search needs)
-    (λ c. search needs)
-    (λ c. search needs)
-    returns)
+read-unheard-spec = tie.close (tie.spec (λ c κs. search needs) (λ c. search needs) (λ c. search needs) returns)
