@@ -7,7 +7,7 @@ use native.Mathlib.Nat.{mod-lt, mod-eq-of-lt, mul-one, add-zero}
 use native.Mathlib.Numerals.{add-one}
 use native.Mathlib.Omega.{arith}
 use lib.ListN.{length, take, getD}
-use lib.Seq.{take-all, take-suc}
+use lib.Seq.{take-suc}
 use lib.Dec.{lit<}
 use lib.Bits.{bitXor, xor-lt, xor-self}
 use Rattle.uslp_octets.specs.Octets.{octets, word, AreOctets}
@@ -57,23 +57,26 @@ sealed m =
     (mod-lt (checksumOf m / 256 ^ 0) (lit< tt)) .1
     (omega arith)
 
--- the same of a message's last two octets
-pub residue : (m : List ℕ) → AreOctets m → 2 ≤ length m → (checksumOf m ≡ 0) ↔ (checksumOf (take (length m - 2) m) ≡ word (length m - 2) 2 m)
-residue m o l =
+-- the same of a message's first k octets, whose last two are those
+pub residue : (k : ℕ) (m : List ℕ) → AreOctets m → 2 ≤ k → k ≤ length m → (checksumOf (take k m) ≡ 0) ↔ (checksumOf (take (k - 2) m) ≡ word (k - 2) 2 m)
+residue k m o two long =
     subst (λ (x : List ℕ). (checksumOf x ≡ 0) ↔ (checksumOf (take n m) ≡ word n 2 m)) parts
     (subst (λ (x : ℕ). (checksumOf (take n m ++ getD m (n + 0) 0 ∷ getD m (n + 1) 0 ∷ []) ≡ 0) ↔ (checksumOf (take n m) ≡ x)) number
     (residue-two (take n m) (getD m (n + 0) 0) (getD m (n + 1) 0) (o (n + 0)) (o (n + 1))))
   where
     n : ℕ
-    n = length m - 2
+    n = k - 2
+
+    whole : suc (suc n) ≡ k
+    whole = omega arith
 
     number : getD m (n + 0) 0 * 256 + getD m (n + 1) 0 ≡ word n 2 m
     number = omega arith
 
-    parts : take n m ++ getD m (n + 0) 0 ∷ getD m (n + 1) 0 ∷ [] ≡ m
+    parts : take n m ++ getD m (n + 0) 0 ∷ getD m (n + 1) 0 ∷ [] ≡ take k m
     parts =
         ap₂ (λ (x y : ℕ). take n m ++ getD m x 0 ∷ getD m y 0 ∷ []) (add-zero n) (add-one n)
         ∙ sym (append-assoc (take n m) (getD m n 0 ∷ []) (getD m (suc n) 0 ∷ []))
         ∙ ap (λ (x : List ℕ). x ++ getD m (suc n) 0 ∷ []) (sym (take-suc m n 0 (omega arith)))
         ∙ sym (take-suc m (suc n) 0 (omega arith))
-        ∙ take-all (suc (suc n)) m (omega arith)
+        ∙ ap (λ (j : ℕ). take j m) whole

@@ -6,9 +6,7 @@ use mathlib.Core.List.{List, _++_}
 use Prim.Native.Nat.{ℕ, _-_, _≤_}
 use native.Mathlib.Omega.{arith}
 use lib.ListN.{length, take, drop, take-append-drop}
-use lib.Seq.{take-take, length-take-le}
 use Rattle.uslp_octets.specs.Octets.{AreOctets, word}
-use Rattle.uslp_octets.proofs.Laws.{word-take}
 use Rattle.uslp_checksum.specs.Checksum.{checksumOf}
 use Rattle.uslp_checksum.proofs.Laws.{residue}
 use Rattle.uslp_kinds.specs.Outcome.{done}
@@ -22,7 +20,7 @@ use Rattle.uslp_reader.specs.Reader.{frameWith, frameReading, contentsIn}
 use Rattle.uslp_reader.proofs.Done.{read-done, done-reads}
 use Rattle.uslp_roundtrip.specs.Laid.{frameOf, Laid}
 use Rattle.uslp_roundtrip.proofs.Complete.{complete, complete-contents}
-use Rattle.uslp_roundtrip.proofs.Sound.{are-take, laid}
+use Rattle.uslp_roundtrip.proofs.Sound.{laid}
 
 module _ (s : List ℕ) (fecf : Bool) (h : PrimaryHeader) (f : TransferFrameDataFieldHeader) (contents : List ℕ) (ocf : OperationalControlField)
     (l : Laid s fecf h f contents ocf) where
@@ -50,24 +48,8 @@ exactly s fecf h f contents ocf oct = (
 module _ (s : List ℕ) (oct : AreOctets s) (h : PrimaryHeader) (f : TransferFrameDataFieldHeader)
     (header : headerReading s ≡ done h) (fits : lenFrame h ≤ length s) (field : fieldReading (drop (lenHeader h) s) ≡ done f)
     (room : needed h f true ≤ lenFrame h) where
-  abbrev n : ℕ
-  n = lenFrame h
-
-  two : 2 ≤ lenFrame h
-  two = omega (arith, room)
-
   stored : (checksumOf (take (lenFrame h) s) ≡ 0) ↔ (checksumOf (take (lenFrame h - 2) s) ≡ word (lenFrame h - 2) 2 s)
-  stored =
-      let long : length (take (lenFrame h) s) ≡ lenFrame h = length-take-le (lenFrame h) s fits in
-      let less : length (take (lenFrame h) s) - 2 ≡ lenFrame h - 2 = omega arith in
-      let before : take (length (take (lenFrame h) s) - 2) (take (lenFrame h) s) ≡ take (lenFrame h - 2) s =
-      ap (λ (k : ℕ). take k (take (lenFrame h) s)) less ∙ take-take (lenFrame h - 2) (lenFrame h) s (omega arith) in
-      let last : word (length (take (lenFrame h) s) - 2) 2 (take (lenFrame h) s) ≡ word (lenFrame h - 2) 2 s =
-      ap (λ (k : ℕ). word k 2 (take (lenFrame h) s)) less ∙ word-take (lenFrame h - 2) 2 (lenFrame h) s (omega (arith, two)) in
-      let both = residue (take (lenFrame h) s) (are-take (lenFrame h) s oct) (omega (arith, two)) in (
-        λ e. sym (ap checksumOf before) ∙ both .0 e ∙ last,
-        λ e. both .1 (ap checksumOf before ∙ e ∙ sym last),
-      )
+  stored = residue (lenFrame h) s oct (omega (arith, room)) fits
 
   pub passes-exactly : (frameReading s true ≡ done (frameWith h f (lenFrame h - needed h f true) s)) ↔
       (checksumOf (take (lenFrame h - 2) s) ≡ word (lenFrame h - 2) 2 s)

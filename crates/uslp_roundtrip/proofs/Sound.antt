@@ -7,10 +7,10 @@ use native.Mathlib.Nat.{mod-lt}
 use native.Mathlib.Omega.{arith}
 use native.Mathlib.Decide.{decLt}
 use lib.ListN.{length, take, drop, length-take, length-drop, List·getD-eq-default}
-use lib.Seq.{take-add, take-take, getD-take, length-take-le}
+use lib.Seq.{take-add, getD-take, length-take-le}
 use lib.Dec.{lit<}
 use Rattle.uslp_octets.specs.Octets.{AreOctets, octets, word}
-use Rattle.uslp_octets.proofs.Laws.{octets-word, word-lt, are-drop, word-take}
+use Rattle.uslp_octets.proofs.Laws.{octets-word, word-lt, are-drop}
 use Rattle.uslp_checksum.specs.Checksum.{checksumOf}
 use Rattle.uslp_checksum.proofs.Laws.{residue}
 use Rattle.uslp_kinds.specs.Outcome.{done}
@@ -29,7 +29,7 @@ use Rattle.uslp_reader.proofs.Paths.{contents-there}
 use Rattle.uslp_roundtrip.specs.Laid.{frameOf, Laid}
 
 -- the front of octets is octets
-pub are-take : (n : ℕ) (s : List ℕ) → AreOctets s → AreOctets (take n s)
+are-take : (n : ℕ) (s : List ℕ) → AreOctets s → AreOctets (take n s)
 are-take n s oct i =
     elim (decLt i n) [
       | yes h ↦ subst (λ (x : ℕ). x < 256) (sym (getD-take n s i 0 h)) (oct i)
@@ -53,12 +53,9 @@ fecf-part : (b : Bool) (n : ℕ) (s : List ℕ) → AreOctets s → n + cond b 2
     → withFecf b (take n s) ≡ take (n + cond b 2 0) s
 fecf-part false n s oct h c = let e : n ≡ n + 0 = omega arith in ap (λ (k : ℕ). take k s) e
 fecf-part true n s oct h c =
-    let long : length (take (n + 2) s) ≡ n + 2 = length-take-le (n + 2) s h in
-    let two : length (take (n + 2) s) - 2 ≡ n = omega arith in
-    let stored = residue (take (n + 2) s) (are-take (n + 2) s oct) (omega arith) .0 (c refl) in
+    let less : n + 2 - 2 ≡ n = omega arith in
     let sum : checksumOf (take n s) ≡ word n 2 s =
-    sym (ap checksumOf (ap (λ (k : ℕ). take k (take (n + 2) s)) two ∙ take-take n (n + 2) s (omega arith)))
-    ∙ stored ∙ ap (λ (k : ℕ). word k 2 (take (n + 2) s)) two ∙ word-take n 2 (n + 2) s (omega arith) in
+    subst (λ (k : ℕ). checksumOf (take k s) ≡ word k 2 s) less (residue (n + 2) s oct (omega arith) h .0 (c refl)) in
     ap (λ (v : ℕ). take n s ++ octets 2 v) sum ∙ ap (λ (l : List ℕ). take n s ++ l) (octets-word s n oct 2 h) ∙ sym (take-add n 2 s)
 
 module _ (s : List ℕ) (fecf : Bool) (x : TransferFrame) (oct : AreOctets s) (e : frameReading s fecf ≡ done x) where
