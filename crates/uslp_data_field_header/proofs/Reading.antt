@@ -1,20 +1,24 @@
 -- What reading a header says, path by path.
 use mathlib.Core.Path.{_≡_, ap}
-use mathlib.Core.Bool.{true, false}
+use mathlib.Core.Bool.{true, false, _&&_}
 use mathlib.Core.List.{List, [], _∷_}
 use Prim.Native.Nat.{ℕ, _/_, _%_, _<_, _≤_}
 use native.Mathlib.Omega.{arith}
 use borrow.Author.Tests.{lt-ltb, le-ltb}
+use lib.Dec.{ltb, lit≤}
 use lib.ListN.{length, getD}
 use Rattle.uslp_octets.specs.Octets.{word, named}
 use Rattle.uslp_kinds.specs.Outcome.{done, refused}
+use Rattle.uslp_kinds.proofs.Outcomes.{then-refused}
+use Rattle.uslp_kinds.proofs.Firsts.{first-up-to}
+use Rattle.uslp_kinds.proofs.Protocol.{protocol-refused}
 use Rattle.uslp_kinds.specs.Kinds.{rules, ruleOf, fixedLength, protocolOf}
 use Rattle.uslp_kinds.specs.declared.ConstructionRule.{ConstructionRule}
 use Rattle.uslp_kinds.specs.declared.ConstructionRule.the-variants.{NoSegmentation}
 use Rattle.uslp_kinds.specs.declared.UslpProtocolId.{UslpProtocolId}
 use Rattle.uslp_kinds.specs.declared.FhpOrLvo.{FhpOrLvo}
 use Rattle.uslp_kinds.specs.declared.FhpOrLvo.the-variants.{Absent, Present}
-use Rattle.uslp_data_field_header.specs.Field.{firstIn, ruleIn, numberIn, withProtocol, fieldReading}
+use Rattle.uslp_data_field_header.specs.Field.{firstIn, ruleIn, numberIn, pointerIn, withProtocol, fieldReading}
 
 -- the first octet's high three bits and low five
 pub rule-at : (s : List ℕ) → ruleIn s ≡ ruleOf (getD s 0 0 / 32)
@@ -28,6 +32,15 @@ number-at s = omega arith
 pub reading-none : (s : List ℕ) → length s < 1 → fieldReading s ≡ refused 1 (length s ∷ 1 ∷ [])
 unfolding fieldReading
 reading-none s h = rw (lt-ltb _ _ h)
+
+-- its refusals are 1 and 5
+pub reading-up-to : (s : List ℕ) {k : ℕ} {vs : List ℕ} → fieldReading s ≡ refused k vs → k ≤ 5
+unfolding fieldReading
+reading-up-to s =
+    first-up-to 5
+    ((ltb (length s) 1, 1, length s ∷ 1 ∷ []) ∷ (fixedLength (ruleIn s) && ltb (length s) 3, 1, length s ∷ 3 ∷ []) ∷ [])
+    (withProtocol (ruleIn s) (numberIn s) (pointerIn s)) (lit≤ tt, (lit≤ tt, tt))
+    (λ e. omega (arith, protocol-refused (numberIn s) (then-refused (protocolOf (numberIn s)) _ e)))
 
 -- with one octet, by its rule and the number of its protocol id
 module _ (s : List ℕ) (one : 1 ≤ length s) (rule : ConstructionRule) (n : ℕ) (has : ruleIn s ≡ rule) (low : numberIn s ≡ n) where

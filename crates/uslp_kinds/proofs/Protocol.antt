@@ -4,10 +4,11 @@ use Prim.Native.Nat.{ℕ, zero, suc, _<_}
 use native.Mathlib.Omega.{arith}
 use native.Mathlib.Decide.{decLt, ℕ-discrete}
 use borrow.Author.Tests.{lt-ltb, le-ltb, eq-eqb, ne-eqb}
+use mathlib.Core.List.{List, [], _∷_}
 use lib.ListN.{getD}
-use lib.Dec.{ltb}
-use mathlib.Core.Bool.{false}
-use Rattle.uslp_kinds.specs.Outcome.{done}
+use lib.Dec.{ltb, eqb}
+use mathlib.Core.Bool.{Bool, true, false, cond}
+use Rattle.uslp_kinds.specs.Outcome.{done, refused}
 use Rattle.uslp_kinds.specs.Kinds.{protocols, protocolNumber, protocolOf}
 use Rattle.uslp_kinds.specs.declared.UslpProtocolId.{UslpProtocolId}
 use Rattle.uslp_kinds.specs.declared.UslpProtocolId.the-variants.{Idle}
@@ -24,6 +25,15 @@ listed (suc (suc (suc (suc (suc (suc zero)))))) h = refl
 listed (suc (suc (suc (suc (suc (suc (suc zero))))))) h = refl
 listed (suc (suc (suc (suc (suc (suc (suc (suc zero)))))))) h = refl
 listed (suc (suc (suc (suc (suc (suc (suc (suc (suc k))))))))) h = absurd (omega arith)
+
+-- the one refusal is 5
+pub protocol-refused : (n : ℕ) {k : ℕ} {vs : List ℕ} → protocolOf n ≡ refused k vs → k ≡ 5
+protocol-refused n {k} {vs} = at (ltb n 9) (eqb n 31)
+  where
+    at : (a b : Bool) → cond a (done (getD protocols n Idle)) (cond b (done Idle) (refused 5 (n ∷ []))) ≡ refused k vs → k ≡ 5
+    at true b e = absurd (not-done (sym e))
+    at false true e = absurd (not-done (sym e))
+    at false false e = cc
 
 module _ (n : ℕ) {id : UslpProtocolId} (e : protocolOf n ≡ done id) where
   pub protocol-number : protocolNumber id ≡ n

@@ -11,7 +11,7 @@ use native.Mathlib.Decide.{decLt}
 use borrow.Author.Tests.{ltb-false, le-ltb, eqb-true, eqb-false, eq-eqb, not-false}
 use lib.ListN.{length, take, drop, length-append}
 use lib.Seq.{take-add}
-use lib.Dec.{lit<, ltb, eqb}
+use lib.Dec.{lit<, lit≤, ltb, eqb}
 use Rattle.uslp_octets.specs.Octets.{AreOctets, Field, bitsIn, octets, pack, word, named}
 use Rattle.uslp_octets.proofs.Laws.{length-octets, octets-word, word-octets, word-lt, unpack-pack, pack-unpack}
 use Rattle.uslp_kinds.specs.Outcome.{Outcome, done, refused, leaving}
@@ -19,7 +19,7 @@ use Rattle.uslp_kinds.specs.Kinds.{sourceOrDestNumber, sourceOrDestOf, bypassNu
 use Rattle.uslp_kinds.proofs.Cases.{source-back, bypass-back, command-back}
 use Rattle.uslp_kinds.proofs.Back.{back, refusal-back, one-to-one, leaving-one}
 use Rattle.uslp_kinds.proofs.Outcomes.{not-done}
-use Rattle.uslp_kinds.proofs.Firsts.{Check, Passing, first-done}
+use Rattle.uslp_kinds.proofs.Firsts.{Check, Passing, first-done, first-up-to}
 use Rattle.uslp_primary_header.specs.Header.{paperHeader, flag, fixedTable, table, lenHeader, withCount, sameButWidth, headerOf, format, rowsIn, spareIn, readingOf, headerChecking, headerReading, headerWriting, Fitting}
 use Rattle.uslp_primary_header.specs.declared.PrimaryHeader.{PrimaryHeader}
 use Rattle.uslp_primary_header.specs.declared.HeaderAnswer.{HeaderAnswer}
@@ -64,6 +64,12 @@ tests rows s =
 
 abbrev headerIn : List ℕ → PrimaryHeader
 headerIn s = headerOf (rowsIn s) (word 7 (named "count width" (rowsIn s)) s)
+
+-- its refusals are 1, 3 and 4
+pub reading-up-to : (s : List ℕ) {k : ℕ} {vs : List ℕ} → headerReading s ≡ refused k vs → k ≤ 4
+unfolding headerReading
+reading-up-to s =
+    first-up-to 4 (tests (rowsIn s) s) (done (headerIn s)) (lit≤ tt, (lit≤ tt, (lit≤ tt, (lit≤ tt, (lit≤ tt, tt))))) (λ e. absurd (not-done (sym e)))
 
 -- what was read: no test held, and the header is the one that stands in the octets
 module _ (s : List ℕ) (h : PrimaryHeader) (e : headerReading s ≡ done h) where
