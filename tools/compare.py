@@ -3,8 +3,9 @@
 
 Usage: compare.py ORACLE PROGRAM [COMMANDS [SEED]]     ORACLE is the built driver of the Rust, PROGRAM what runs uslp_run,
                                                        as 'tools/run uslp_run'; default 16,000
-       compare.py --write DIR ORACLE PROGRAM COMMANDS SEED    writes the commands that have equal answers, and the Rust's answers to them,
+       compare.py --write DIR ORACLE PROGRAM COMMANDS SEED    writes the commands that have equal answers, and what was due,
                                                               to DIR/stdin and DIR/stdout
+What is due is the Rust's answer. With 6 the Rust gives the stored FECF alone: there its answer to `crc` of the octets before the FECF is due behind it.
 Counts the answers by command and number, and the differences by kind with the shortest command of each. A difference that docs/DIFFERENCES.md
 does not list, judged from the command's own words, makes the exit status 1.
 """
@@ -210,6 +211,21 @@ def answers(program, lines):
     return said
 
 
+def before_fecf(line):
+    """The octets of a frame before its FECF, as a word."""
+    octets = bytes.fromhex(line.split()[2])
+    return octets[: max(0, int.from_bytes(octets[4:6], "big") - 1)].hex() or "-"
+
+
+def due(oracle, lines, there):
+    """The Rust's answers, each 6 with the Rust's checksum of the octets before the FECF."""
+    bad = [i for i, answer in enumerate(there) if lines[i].split()[:1] == ["fr"] and answer.startswith("6 ")]
+    out = list(there)
+    for i, computed in zip(bad, answers(oracle, ["crc " + before_fecf(lines[i]) for i in bad]) if bad else []):
+        out[i] += " " + computed
+    return out
+
+
 def short_frame(words):
     """Whether the length that a frame declares is below its headers, OCF and FECF; and the two numbers."""
     octets = bytes.fromhex(words[2])
@@ -226,9 +242,7 @@ def frame_total(words):
 
 
 def kind(line, theirs, ours):
-    """None where the answers agree, else what kind of difference it is, and whether docs/DIFFERENCES.md lists it."""
-    if theirs == ours:
-        return None
+    """What kind of difference it is, and whether docs/DIFFERENCES.md lists it."""
     words = line.split()
     name, there = words[0] if words else "", theirs.split()[0]
     if name == "fr" and ours.startswith("7 ") and there in ("panic", "6"):
@@ -263,19 +277,20 @@ def main():
         while len(lines) < min(BLOCK, count - done):
             lines.append(r.choice(MAKERS + [make_bad])(r))
         there, here = answers(words[0], lines), answers(words[1], lines)
-        for line, a, b in zip(lines, there, here):
-            difference = kind(line, a, b)
-            if difference is None:
+        for line, a, expected, b in zip(lines, there, due(words[0], lines, there), here):
+            if b == expected:
                 equal[tell(NAMES.get((line.split() or [""])[0], "no command"), a)] += 1
                 if out:
-                    kept.append((line, a))
+                    kept.append((line, expected))
             else:
+                difference = kind(line, a, b)
                 n, shortest = found.get(difference, (0, None))
                 found[difference] = n + 1, min(shortest or (line, a, b), (line, a, b), key=lambda c: len(c[0]))
         done += len(lines)
     print(done, "commands,", sum(equal.values()), "equal answers:")
     for name in sorted({n for n, _ in equal}):
         print(" ", name + ":", ", ".join(f"{k} {n}" for (m, k), n in sorted(equal.items()) if m == name))
+    print(f"  {equal['fr', '6']} answers 6: the stored FECF is the Rust's, the computed one is the Rust's crc of the octets before it")
     for (what, listed), (n, (line, a, b)) in sorted(found.items()):
         bad = bad or not listed
         print(f"{'listed' if listed else 'NOT LISTED'}: {what}: {n}; shortest: {line[:160]!r}: there {a[:60]!r}, here {b[:60]!r}")

@@ -251,13 +251,22 @@ def ask_program(program, commands):
     return subprocess.run(shlex.split(program), input=text, stdout=subprocess.PIPE, text=True, check=True).stdout.splitlines()
 
 
+def refused(command, found):
+    """Whether the reader refused the octets, with a number from 1 to 7; 6 with the FECF as stored and as this script sums it."""
+    if found.split()[0] != "6":
+        return found.split()[0] in "123457"
+    octets = bytes.fromhex(command.split()[2])
+    end = int.from_bytes(octets[4:6], "big") - 1
+    return found == f"6 {int.from_bytes(octets[end : end + 2], 'big')} {checksum(octets[:end])}"
+
+
 def compare(program, commands, answers):
-    """Each answer as expected; octets that were damaged are refused by the reader, with a number from 1 to 7."""
+    """Each answer as expected; octets that were damaged are refused by the reader."""
     said = ask_program(program, commands)
     if len(said) != len(commands):
         return f"{len(commands)} commands, {len(said)} answers"
     for command, expected, found in zip(commands, answers, said):
-        fits = found == expected if expected is not None else found.split()[0] in "1234567"
+        fits = found == expected if expected is not None else refused(command, found)
         if not fits:
             return f"{command}\n  expected {expected}\n  found    {found}"
     return None

@@ -87,7 +87,7 @@ pub(crate) fn say_refusal(refusal: Refusal) {
         Refusal::ShortTarget { found, expected } => say_two(found as u64, expected as u64),
         Refusal::BadVersion(version) => say_field(version as u64),
         Refusal::BadProtocol(id) => say_field(id as u64),
-        Refusal::BadChecksum(stored) => say_field(stored as u64),
+        Refusal::BadChecksum { stored, computed } => say_two(stored as u64, computed as u64),
         Refusal::FrameTooShort { length, needed } => say_two(length as u64, needed as u64),
         Refusal::BadCount { count, width } => say_two(count, width as u64),
         Refusal::BadPointer(rule) => say_field(rule.number() as u64),

@@ -14,6 +14,7 @@ pub mod OfHearing
 pub mod OfSaved
 pub mod OfLentHeader
 pub mod OfLentReader
+pub mod PassedOn
 pub mod CasesHold
 pub mod Demand1
 pub mod Wrong

@@ -33,7 +33,7 @@ use Rattle.uslp_demands.proofs.Alike.{alike}
 abbrev pub fn-hear : Function
 fn-hear = function hearing.hear.Kinds.ps hearing.hear.Kinds.r hearing.hear.Reads.Pre hearing.hear.Reads.Learnt
 
-abbrev fn-judge : Function
+abbrev pub fn-judge : Function
 fn-judge = function hearing.judge.Kinds.ps hearing.judge.Kinds.r hearing.judge.Reads.Pre hearing.judge.Reads.Learnt
 
 abbrev fn-handed-on : Function

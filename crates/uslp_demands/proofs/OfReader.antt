@@ -1,17 +1,21 @@
 -- The promises of `uslp_reader` settle each call, and shut out two tempting wrong answers of each function. `data` and `data_of` hand
 -- back a part of the lent octets: what it shows is settled.
 use mathlib.Core.Path.{_≡_, refl, sym, ap, _∙_}
-use mathlib.Core.Bool.{false}
+use mathlib.Core.Bool.{Bool, true, false}
 use mathlib.Core.List.{List, [], _∷_}
 use Prim.Native.Nat.{ℕ}
 use native.Mathlib.Omega.{arith}
 use lib.ListN.{length}
+use contract.Lifetimes.{Lfts}
 use denote.Ref.{RefT, now}
+use Rattle.uslp_octets.specs.Octets.{AreOctets}
+use Rattle.uslp_checksum.specs.Checksum.{bit, step, feed, lows, bits, checksumOf}
+use Rattle.uslp_kinds.specs.Outcome.{Outcome, refused}
 use Rattle.uslp_kinds.proofs.Back.{back, one-to-one}
 use Rattle.uslp_kinds.specs.declared.SourceOrDestField.the-variants.{Source, Dest}
 use Rattle.uslp_kinds.specs.declared.ConstructionRule.the-variants.{PacketSpanningMultipleFrames, NoSegmentation}
 use Rattle.uslp_kinds.specs.declared.OperationalControlField.the-variants.{Absent, Present}
-use Rattle.uslp_kinds.specs.declared.Refusal.the-variants.{ShortSource, Truncated}
+use Rattle.uslp_kinds.specs.declared.Refusal.the-variants.{ShortSource, Truncated, BadChecksum}
 use Rattle.uslp_primary_header.specs.Header.{headerReading}
 use Rattle.uslp_primary_header.specs.declared.PrimaryHeader.{PrimaryHeader}
 use Rattle.uslp_data_field_header.specs.Field.{fieldReading}
@@ -23,6 +27,7 @@ use Rattle.uslp_reader.proofs.Done.{frame-back}
 use Rattle.uslp_reader.proofs as reader
 use Rattle.uslp_demands.specs.Promise.{Function, function, at, Allows, Settles, Shows}
 use Rattle.uslp_roundtrip.specs.Samples.{some, whole, spanning, made, octetsF, readF}
+use Rattle.uslp_roundtrip.proofs.Unequal.{shown-differ}
 use Rattle.uslp_demands.proofs.Alike.{alike}
 
 -- the functions, each with its promise
@@ -124,6 +129,38 @@ pub from-bytes-truncated : Allows fn-from-bytes ([], tt) (at (0xC1 ∷ 0x23 ∷ 
     (frame-answer.Refused (ShortSource 4 7), (tt, (tt, tt))) → ⊥
 unfolding frameReading headerReading
 from-bytes-truncated e = let z : _≡_ {A = ℕ} 0 1 = cc in omega arith
+
+-- frame F with the two octets of its FECF exchanged, B5 45 on the sender's side: 6 shows 45B5 as stored and B545 as computed
+abbrev swapped : List ℕ
+swapped = 0xC1 ∷ 0x23 ∷ 0x48 ∷ 0xA6 ∷ 0x00 ∷ 0x0C ∷ 0x01 ∷ 0x07 ∷ 0xE4 ∷ 0x0A ∷ 0xF0 ∷ 0x45 ∷ 0xB5 ∷ []
+
+abbrev Shown : List ℕ → ℕ → ℕ → Type 0
+Shown s a b = Allows fn-from-bytes ([], tt) (at s, (true, tt)) (frame-answer.Refused (BadChecksum a b), (tt, (tt, tt)))
+
+pub from-bytes-swapped : Shown swapped 0x45B5 0xB545
+unfolding frameReading headerReading fieldReading checksumOf bits lows feed step bit
+from-bytes-swapped = refl
+
+whole-sum : checksumOf swapped ≡ 0xFCDE
+unfolding checksumOf bits lows feed step bit
+whole-sum = refl
+
+-- two answers 6 to the same octets show the same
+shown-one : {a b c d : ℕ} → _≡_ {A = Outcome TransferFrame} (refused 6 (a ∷ b ∷ [])) (refused 6 (c ∷ d ∷ [])) → (a ≡ c) × (b ≡ d)
+shown-one e = (cc, cc)
+
+-- the register after the FECF, the residue, for the one before it: that is the checksum of the whole frame
+pub from-bytes-residue : Shown swapped 0x45B5 (checksumOf swapped) → ⊥
+from-bytes-residue e = let z = shown-one (from-bytes-swapped ∙ sym e) .1 in omega (arith, z, whole-sum)
+
+-- shows the two exchanged, or one of them twice, whatever the frame
+module _ (κs : Lfts 1) (s : RefT (List ℕ)) (oct : AreOctets (now s)) (fecf : Bool) (a b : ℕ)
+    (shown : Allows fn-from-bytes κs (s, (fecf, tt)) (frame-answer.Refused (BadChecksum a b), (tt, (tt, tt)))) where
+  pub from-bytes-twice : a ≡ b → ⊥
+  from-bytes-twice = shown-differ (now s) oct fecf a b (sym shown)
+
+  pub from-bytes-exchanged : Allows fn-from-bytes κs (s, (fecf, tt)) (frame-answer.Refused (BadChecksum b a), (tt, (tt, tt))) → ⊥
+  from-bytes-exchanged e = from-bytes-twice (shown-one (shown ∙ sym e) .0)
 
 pub len-frame-settles : Settles fn-len-frame
 len-frame-settles = record { total = λ κs a. tt; same = λ κs a x y s t. alike (s ∙ sym t) refl }

@@ -24,10 +24,11 @@ bare =
     ∷ (18, BadForm) ∷ []
 
 abbrev single : ℕ → List (ℕ × Refusal)
-single a = (4, BadVersion a) ∷ (5, BadProtocol a) ∷ (6, BadChecksum a) ∷ (9, BadPointer (ruleOf a)) ∷ []
+single a = (4, BadVersion a) ∷ (5, BadProtocol a) ∷ (9, BadPointer (ruleOf a)) ∷ []
 
 abbrev double : ℕ → ℕ → List (ℕ × Refusal)
-double a b = (1, ShortSource a b) ∷ (2, ShortTarget a b) ∷ (7, FrameTooShort a b) ∷ (8, BadCount a b) ∷ (14, OtherWidth a b) ∷ []
+double a b =
+    (1, ShortSource a b) ∷ (2, ShortTarget a b) ∷ (6, BadChecksum a b) ∷ (7, FrameTooShort a b) ∷ (8, BadCount a b) ∷ (14, OtherWidth a b) ∷ []
 
 abbrev numbered : ℕ → List (ℕ × Refusal) → Refusal
 numbered k [] = Truncated
@@ -45,7 +46,7 @@ refusal-back (ShortTarget a b) = refl
 refusal-back Truncated = refl
 refusal-back (BadVersion a) = refl
 refusal-back (BadProtocol a) = refl
-refusal-back (BadChecksum a) = refl
+refusal-back (BadChecksum a b) = refl
 refusal-back (FrameTooShort a b) = refl
 refusal-back (BadCount a b) = refl
 refusal-back (BadPointer p) = ap BadPointer (rule-back p)

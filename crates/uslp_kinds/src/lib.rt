@@ -70,7 +70,7 @@ pub enum Refusal {
     Truncated,
     BadVersion(u8),
     BadProtocol(u8),
-    BadChecksum(u16),
+    BadChecksum { stored: u16, computed: u16 },
     FrameTooShort { length: usize, needed: usize },
     BadCount { count: u64, width: u8 },
     BadPointer(ConstructionRule),
@@ -119,7 +119,10 @@ impl Refusal {
             Refusal::Truncated => 3,
             Refusal::BadVersion(_) => 4,
             Refusal::BadProtocol(_) => 5,
-            Refusal::BadChecksum(_) => 6,
+            Refusal::BadChecksum {
+                stored: _,
+                computed: _,
+            } => 6,
             Refusal::FrameTooShort {
                 length: _,
                 needed: _,

@@ -6,7 +6,6 @@ use mathlib.Core.List.{List, [], _∷_}
 use borrow.Author.Tests.{le-ltb, lt-ltb, le-leb, eq-eqb, ne-eqb}
 use lib.ListN.{length, take, drop}
 use lib.Dec.{eqb}
-use Rattle.uslp_octets.specs.Octets.{word}
 use Rattle.uslp_checksum.specs.Checksum.{checksumOf}
 use Rattle.uslp_kinds.specs.Outcome.{done, refused}
 use Rattle.uslp_primary_header.specs.Header.{lenHeader, lenFrame, headerReading}
@@ -14,7 +13,7 @@ use Rattle.uslp_primary_header.specs.declared.PrimaryHeader.{PrimaryHeader}
 use Rattle.uslp_data_field_header.specs.Field.{fieldReading}
 use Rattle.uslp_data_field_header.specs.declared.TransferFrameDataFieldHeader.{TransferFrameDataFieldHeader}
 use Rattle.uslp_layout.specs.Layout.{needed}
-use Rattle.uslp_reader.specs.Reader.{frameWith, bodyReading, frameReading, contentsIn}
+use Rattle.uslp_reader.specs.Reader.{frameWith, storedFecf, computedFecf, bodyReading, frameReading, contentsIn}
 use Rattle.uslp_reader.specs.declared.TransferFrame.{TransferFrame}
 
 -- the test of the checksum: it refuses where it is asked for and not 0, and passes elsewhere
@@ -49,8 +48,10 @@ module _ (s : List ℕ) (fecf : Bool) where
         reading-too-short l = reading-body ∙ simp (lt-ltb _ _ l)
 
         module _ (room : needed h f fecf ≤ lenFrame h) where
-          pub reading-checksum : fecf ≡ true → (checksumOf (take (lenFrame h) s) ≡ 0 → ⊥) → frameReading s fecf ≡ refused 6 (word (lenFrame h - 2) 2 s ∷ [])
-          reading-checksum t n = reading-body ∙ simp (le-ltb _ _ room, wrong fecf _ t n)
+          pub reading-checksum : {a b : ℕ} → fecf ≡ true → (checksumOf (take (lenFrame h) s) ≡ 0 → ⊥) → a ≡ storedFecf h s → b ≡ computedFecf h s
+              → frameReading s fecf ≡ refused 6 (a ∷ b ∷ [])
+          reading-checksum t n p q =
+              reading-body ∙ simp (le-ltb _ _ room, wrong fecf _ t n) (ap₂ (λ (x y : ℕ). refused 6 (x ∷ y ∷ [])) (sym p) (sym q))
 
           module _ (passes : fecf ≡ true → checksumOf (take (lenFrame h) s) ≡ 0) where
             pub reading-done : frameReading s fecf ≡ done (frameWith h f (lenFrame h - needed h f fecf) s)

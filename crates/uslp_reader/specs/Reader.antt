@@ -38,13 +38,20 @@ frameWith h f n s =
       «data_len» = n;
     }
 
--- both headers stand: 7, 6; a frame passes when the checksum over all of it is 0, and 6 carries the stored FECF;
+-- the FECF as it is stored in a frame, and as it is computed from the octets before it
+abbrev pub storedFecf : PrimaryHeader → List ℕ → ℕ
+storedFecf h s = word (lenFrame h - 2) 2 s
+
+abbrev pub computedFecf : PrimaryHeader → List ℕ → ℕ
+computedFecf h s = checksumOf (take (lenFrame h - 2) s)
+
+-- both headers stand: 7, 6; a frame passes when the checksum over all of it is 0, and 6 carries the FECF as stored and as computed;
 -- the data are what the frame's length leaves over
 abbrev pub bodyReading : PrimaryHeader → TransferFrameDataFieldHeader → Bool → List ℕ → Outcome TransferFrame
 bodyReading h f fecf s =
     firstOf
     ((ltb (lenFrame h) (needed h f fecf), refused 7 (lenFrame h ∷ needed h f fecf ∷ []))
-    ∷ (fecf && not (eqb (checksumOf (take (lenFrame h) s)) 0), refused 6 (word (lenFrame h - 2) 2 s ∷ []))
+    ∷ (fecf && not (eqb (checksumOf (take (lenFrame h) s)) 0), refused 6 (storedFecf h s ∷ computedFecf h s ∷ []))
     ∷ [])
     (done (frameWith h f (lenFrame h - needed h f fecf) s))
 

@@ -171,11 +171,11 @@ fn read_body(
         return FrameAnswer::Refused(Refusal::FrameTooShort { length, needed });
     }
     if has_fecf {
-        if checksum(&buf[0..length]) != 0 {
-            return FrameAnswer::Refused(Refusal::BadChecksum(be_u16(
-                buf[length - 2],
-                buf[length - 1],
-            )));
+        let stored = be_u16(buf[length - 2], buf[length - 1]);
+        // the register as it stands before the FECF: the one pass gives the test and the number that a refusal shows
+        let computed = checksum(&buf[0..length - 2]);
+        if stored != computed {
+            return FrameAnswer::Refused(Refusal::BadChecksum { stored, computed });
         }
         return FrameAnswer::Done(frame_of(buf, header, field, length - needed));
     }

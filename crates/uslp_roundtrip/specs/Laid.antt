@@ -1,14 +1,17 @@
--- What demand 2 claims of octets: that they begin with the layout of some fields.
+-- What demand 2 claims of octets: that they begin with the layout of some fields; and when they begin with a frame whose FECF is wrong.
 use mathlib.Core.Path.{_≡_}
-use mathlib.Core.Bool.{Bool}
 use mathlib.Core.List.{List}
-use Prim.Native.Nat.{ℕ, _<_}
-use lib.ListN.{length, take}
+use Prim.Native.Nat.{ℕ, _<_, _≤_}
+use mathlib.Core.Bool.{Bool, true}
+use lib.ListN.{length, take, drop}
+use Rattle.uslp_kinds.specs.Outcome.{done}
 use Rattle.uslp_kinds.specs.declared.OperationalControlField.{OperationalControlField}
-use Rattle.uslp_primary_header.specs.Header.{lenFrame}
+use Rattle.uslp_primary_header.specs.Header.{lenHeader, lenFrame, headerReading}
 use Rattle.uslp_primary_header.specs.declared.PrimaryHeader.{PrimaryHeader}
+use Rattle.uslp_data_field_header.specs.Field.{fieldReading}
 use Rattle.uslp_data_field_header.specs.declared.TransferFrameDataFieldHeader.{TransferFrameDataFieldHeader}
-use Rattle.uslp_layout.specs.Layout.{dataStart, layout, WellFormed}
+use Rattle.uslp_layout.specs.Layout.{dataStart, needed, layout, WellFormed}
+use Rattle.uslp_reader.specs.Reader.{storedFecf, computedFecf}
 use Rattle.uslp_reader.specs.declared.TransferFrame.{TransferFrame}
 
 -- the frame that these fields make, as the reader gives it
@@ -29,3 +32,15 @@ pub record Laid (s : List ℕ) (fecf : Bool) (h : PrimaryHeader) (f : TransferFr
   pub spare-fits : spare < 4
   pub well-formed : WellFormed fecf h f contents ocf
   pub begins : take (lenFrame h) s ≡ layout fecf spare h f contents ocf
+
+-- both headers stand, the frame's length holds them, the OCF and the FECF, and the FECF as stored and as computed are these two, which differ
+pub record WrongFecf (s : List ℕ) (stored computed : ℕ) : Type 0 where
+  pub h : PrimaryHeader
+  pub f : TransferFrameDataFieldHeader
+  pub header : headerReading s ≡ done h
+  pub whole : lenFrame h ≤ length s
+  pub field : fieldReading (drop (lenHeader h) s) ≡ done f
+  pub room : needed h f true ≤ lenFrame h
+  pub is-stored : stored ≡ storedFecf h s
+  pub is-computed : computed ≡ computedFecf h s
+  pub differ : stored ≡ computed → ⊥
