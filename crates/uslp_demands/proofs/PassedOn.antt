@@ -1,4 +1,4 @@
--- A refusal of the reader is passed on whole, with all that it carries, by every call that reads: hearing, judging, the reader that keeps the
+-- A refusal of the reader is passed on whole, with all that it carries, by the calls that read first: hearing, judging, the reader that keeps the
 -- lent frame.
 use mathlib.Core.Path.{_≡_, ap, sym, _∙_}
 use mathlib.Core.Bool.{Bool}
@@ -7,7 +7,6 @@ use Prim.Native.Nat.{ℕ}
 use contract.Lifetimes.{Lfts}
 use denote.Ref.{RefT}
 use Rattle.uslp_kinds.specs.Outcome.{Outcome, andThen}
-use Rattle.uslp_kinds.specs.Answers.{refusal}
 use Rattle.uslp_kinds.specs.declared.Refusal.{Refusal}
 use Rattle.uslp_kinds.proofs.Back.{back, one-to-one}
 use Rattle.uslp_reader.specs.Reader.{paperFrame}

@@ -11,7 +11,8 @@ pub not-done : {A : Type 0} {k : ℕ} {vs : List ℕ} {x : A} → refused k vs �
 not-done e = let z : _≡_ {A = ℕ} 0 1 = cc in omega arith
 
 -- a refusal says the same for any result
-pub refused-any : {A B : Type 0} {j k : ℕ} {us vs : List ℕ} → _≡_ {A = Outcome A} (refused j us) (refused k vs) → _≡_ {A = Outcome B} (refused j us) (refused k vs)
+pub refused-any : {A B : Type 0} {j k : ℕ} {us vs : List ℕ} → _≡_ {A = Outcome A} (refused j us) (refused k vs)
+    → _≡_ {A = Outcome B} (refused j us) (refused k vs)
 refused-any {j} {k} {us} {vs} e =
     let a : j ≡ k = cc in
     let b : us ≡ vs = cc in

@@ -3,25 +3,22 @@ use mathlib.Core.Path.{_≡_, refl, ap, sym, _∙_, subst}
 use Prim.Native.Nat.{ℕ, _-_, _≤_}
 use mathlib.Core.Bool.{Bool, true, false, not, _&&_, false≢true}
 use mathlib.Core.List.{List}
-use native.Mathlib.Omega.{arith}
-use native.Mathlib.Decide.{decLt}
 use borrow.Author.Tests.{ltb-false, eqb-true, not-false}
 use lib.ListN.{length, take, drop}
 use lib.Dec.{eqb}
 use Rattle.uslp_checksum.specs.Checksum.{checksumOf}
-use Rattle.uslp_kinds.specs.Outcome.{Outcome, done, refused}
+use Rattle.uslp_kinds.specs.Outcome.{done}
 use Rattle.uslp_kinds.proofs.Outcomes.{not-done, done-one, passed}
 use Rattle.uslp_kinds.proofs.Back.{back, refusal-back}
 use Rattle.uslp_primary_header.specs.Header.{lenHeader, lenFrame, headerReading}
-use Rattle.uslp_primary_header.specs.declared.PrimaryHeader.{PrimaryHeader}
 use Rattle.uslp_data_field_header.specs.Field.{fieldReading}
-use Rattle.uslp_data_field_header.specs.declared.TransferFrameDataFieldHeader.{TransferFrameDataFieldHeader}
 use Rattle.uslp_layout.specs.Layout.{needed}
 use Rattle.uslp_reader.specs.Reader.{paperFrame, frameWith, frameReading}
 use Rattle.uslp_reader.specs.declared.TransferFrame.{TransferFrame}
 use Rattle.uslp_reader.specs.declared.FrameAnswer.{FrameAnswer}
 use Rattle.uslp_reader.specs.declared.FrameAnswer.the-variants as frame-answer
-use Rattle.uslp_reader.proofs.Paths.{reading-header, reading-short, reading-field, reading-body, reading-done}
+use Rattle.uslp_reader.proofs.Paths.{Way, way, reading-header, reading-short, reading-field, reading-body, reading-done}
+use Rattle.uslp_reader.proofs.Paths.Way.{at-header, too-few, at-field, to-body}
 
 -- each check passed, and the frame is the one that stands in the octets
 pub record ReadDone (s : List ℕ) (fecf : Bool) (x : TransferFrame) : Type 0 where
@@ -39,32 +36,25 @@ checked true n e t = eqb-true n 0 (not-false _ e)
 checked false n e t = absurd (false≢true t)
 
 module _ (s : List ℕ) (fecf : Bool) (x : TransferFrame) (e : frameReading s fecf ≡ done x) where
-  module _ (h : PrimaryHeader) (header : headerReading s ≡ done h) (whole : lenFrame h ≤ length s) where
-    by-field : (o : Outcome TransferFrameDataFieldHeader) → fieldReading (drop (lenHeader h) s) ≡ o → ReadDone s fecf x
-    by-field (refused k vs) r = absurd (not-done (sym (reading-field s fecf h header whole r) ∙ e))
-    by-field (done f) r =
-        let p = passed _ _ _ _ (sym (reading-body s fecf h header whole f r) ∙ e) in
-        let q = passed _ _ _ _ (p .1) in
-        subst (ReadDone s fecf) (done-one (q .1))
-        (record {
-          header = header;
-          whole = whole;
-          field = r;
-          room = ltb-false _ _ (p .0);
-          check = checked fecf _ (q .0);
-          frame = refl;
-        })
-
-  by-header : (o : Outcome PrimaryHeader) → headerReading s ≡ o → ReadDone s fecf x
-  by-header (refused k vs) r = absurd (not-done (sym (reading-header s fecf r) ∙ e))
-  by-header (done h) r =
-      elim (decLt (length s) (lenFrame h)) [
-        | yes a ↦ absurd (not-done (sym (reading-short s fecf h r a) ∙ e))
-        | no a ↦ by-field h r (omega arith) (fieldReading (drop (lenHeader h) s)) refl
-      ]
+  by-way : Way s → ReadDone s fecf x
+  by-way (at-header k vs r) = absurd (not-done (sym (reading-header s fecf r) ∙ e))
+  by-way (too-few h r l) = absurd (not-done (sym (reading-short s fecf h r l) ∙ e))
+  by-way (at-field h header whole k vs r) = absurd (not-done (sym (reading-field s fecf h header whole r) ∙ e))
+  by-way (to-body h header whole f r) =
+      let p = passed _ _ _ _ (sym (reading-body s fecf h header whole f r) ∙ e) in
+      let q = passed _ _ _ _ (p .1) in
+      subst (ReadDone s fecf) (done-one (q .1))
+      (record {
+        header = header;
+        whole = whole;
+        field = r;
+        room = ltb-false _ _ (p .0);
+        check = checked fecf _ (q .0);
+        frame = refl;
+      })
 
   pub read-done : ReadDone s fecf x
-  read-done = by-header (headerReading s) refl
+  read-done = by-way (way s)
 
 pub done-reads : (s : List ℕ) (fecf : Bool) (x : TransferFrame) → ReadDone s fecf x → frameReading s fecf ≡ done x
 done-reads s fecf x r =

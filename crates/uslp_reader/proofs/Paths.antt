@@ -3,11 +3,13 @@ use mathlib.Core.Path.{_≡_, refl, ap, ap₂, sym, _∙_}
 use Prim.Native.Nat.{ℕ, _+_, _-_, _<_, _≤_}
 use mathlib.Core.Bool.{Bool, true, false, not, _&&_}
 use mathlib.Core.List.{List, [], _∷_}
+use native.Mathlib.Omega.{arith}
+use native.Mathlib.Decide.{decLt}
 use borrow.Author.Tests.{le-ltb, lt-ltb, le-leb, eq-eqb, ne-eqb}
 use lib.ListN.{length, take, drop}
 use lib.Dec.{eqb}
 use Rattle.uslp_checksum.specs.Checksum.{checksumOf}
-use Rattle.uslp_kinds.specs.Outcome.{done, refused}
+use Rattle.uslp_kinds.specs.Outcome.{Outcome, done, refused}
 use Rattle.uslp_primary_header.specs.Header.{lenHeader, lenFrame, headerReading}
 use Rattle.uslp_primary_header.specs.declared.PrimaryHeader.{PrimaryHeader}
 use Rattle.uslp_data_field_header.specs.Field.{fieldReading}
@@ -23,6 +25,32 @@ wrong fecf n t h = simp (t, ne-eqb _ _ h)
 right : (fecf : Bool) (n : ℕ) → (fecf ≡ true → n ≡ 0) → fecf && not (eqb n 0) ≡ false
 right true n h = simp (eq-eqb _ _ (h refl))
 right false n h = refl
+
+-- the ways that a reading can go, up to the length that two headers need
+pub data Way (s : List ℕ) : Type 0 where
+  at-header : (k : ℕ) (vs : List ℕ) → headerReading s ≡ refused k vs → Way s
+  too-few : (h : PrimaryHeader) → headerReading s ≡ done h → length s < lenFrame h → Way s
+  at-field : (h : PrimaryHeader) → headerReading s ≡ done h → lenFrame h ≤ length s
+      → (k : ℕ) (vs : List ℕ) → fieldReading (drop (lenHeader h) s) ≡ refused k vs → Way s
+  to-body : (h : PrimaryHeader) → headerReading s ≡ done h → lenFrame h ≤ length s
+      → (f : TransferFrameDataFieldHeader) → fieldReading (drop (lenHeader h) s) ≡ done f → Way s
+
+module _ (s : List ℕ) where
+  by-field : (h : PrimaryHeader) → headerReading s ≡ done h → lenFrame h ≤ length s
+      → (o : Outcome TransferFrameDataFieldHeader) → fieldReading (drop (lenHeader h) s) ≡ o → Way s
+  by-field h header whole (refused k vs) e = at-field h header whole k vs e
+  by-field h header whole (done f) e = to-body h header whole f e
+
+  by-header : (o : Outcome PrimaryHeader) → headerReading s ≡ o → Way s
+  by-header (refused k vs) e = at-header k vs e
+  by-header (done h) e =
+      elim (decLt (length s) (lenFrame h)) [
+        | yes l ↦ too-few h e l
+        | no l ↦ by-field h e (omega arith) (fieldReading (drop (lenHeader h) s)) refl
+      ]
+
+  pub way : Way s
+  way = by-header (headerReading s) refl
 
 module _ (s : List ℕ) (fecf : Bool) where
   pub reading-header : {k : ℕ} {vs : List ℕ} → headerReading s ≡ refused k vs → frameReading s fecf ≡ refused k vs

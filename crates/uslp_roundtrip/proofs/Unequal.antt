@@ -5,24 +5,21 @@ use mathlib.Core.Logic.{_↔_}
 use mathlib.Core.List.{List, [], _∷_}
 use Prim.Native.Nat.{ℕ, _≤_}
 use native.Mathlib.Omega.{arith}
-use native.Mathlib.Decide.{decLt}
 use borrow.Author.Tests.{ltb-false, eq-eqb}
 use lib.Dec.{ltb, eqb}
-use lib.ListN.{length, take, drop}
+use lib.ListN.{take, drop}
 use Rattle.uslp_octets.specs.Octets.{AreOctets}
 use Rattle.uslp_checksum.specs.Checksum.{checksumOf}
 use Rattle.uslp_checksum.proofs.Laws.{residue}
-use Rattle.uslp_kinds.specs.Outcome.{Outcome, done, refused}
+use Rattle.uslp_kinds.specs.Outcome.{Outcome, refused}
 use Rattle.uslp_kinds.proofs.Outcomes.{later, last}
-use Rattle.uslp_primary_header.specs.Header.{lenHeader, lenFrame, headerReading}
-use Rattle.uslp_primary_header.specs.declared.PrimaryHeader.{PrimaryHeader}
+use Rattle.uslp_primary_header.specs.Header.{lenHeader, lenFrame}
 use Rattle.uslp_primary_header.proofs.RoundTrip as header-trip
-use Rattle.uslp_data_field_header.specs.Field.{fieldReading}
-use Rattle.uslp_data_field_header.specs.declared.TransferFrameDataFieldHeader.{TransferFrameDataFieldHeader}
 use Rattle.uslp_data_field_header.proofs.Reading as field-reading
 use Rattle.uslp_layout.specs.Layout.{needed}
 use Rattle.uslp_reader.specs.Reader.{storedFecf, computedFecf, frameReading}
-use Rattle.uslp_reader.proofs.Paths.{reading-header, reading-short, reading-field, reading-body, reading-checksum}
+use Rattle.uslp_reader.proofs.Paths.{Way, way, reading-header, reading-short, reading-field, reading-body, reading-checksum}
+use Rattle.uslp_reader.proofs.Paths.Way.{at-header, too-few, at-field, to-body}
 use Rattle.uslp_roundtrip.specs.Laid.{WrongFecf}
 
 -- a refusal's number
@@ -39,48 +36,40 @@ failed true n e z = false≢true (sym (ap not (eq-eqb n 0 z)) ∙ e)
 failed false n e z = false≢true e
 
 module _ (s : List ℕ) (oct : AreOctets s) (fecf : Bool) (a b : ℕ) where
-  module _ (e : frameReading s fecf ≡ refused 6 (a ∷ b ∷ [])) where
-    module _ (h : PrimaryHeader) (header : headerReading s ≡ done h) (whole : lenFrame h ≤ length s) where
-      by-field : (o : Outcome TransferFrameDataFieldHeader) → fieldReading (drop (lenHeader h) s) ≡ o → (fecf ≡ true) × WrongFecf s a b
-      by-field (refused k vs) r =
-          let six = number-one (sym (reading-field s fecf h header whole r) ∙ e) in
-          absurd (omega (arith, six, field-reading.reading-up-to (drop (lenHeader h) s) r))
-      by-field (done f) r =
-          let short = ltb (lenFrame h) (needed h f fecf) in
-          let wrong = fecf && not (eqb (checksumOf (take (lenFrame h) s)) 0) in
-          let p = later 7 _ short _ (λ z. omega arith) (sym (reading-body s fecf h header whole f r) ∙ e) in
-          let q = last 6 (storedFecf h s ∷ computedFecf h s ∷ []) wrong _ (p .1) in
-          let on = asked fecf (checksumOf (take (lenFrame h) s)) (q .0) in
-          let room : needed h f fecf ≤ lenFrame h = ltb-false (lenFrame h) (needed h f fecf) (p .0) in
-          let stored : storedFecf h s ≡ a = cc in
-          let computed : computedFecf h s ≡ b = cc in (
-            on,
-            record {
-              h = h;
-              f = f;
-              header = header;
-              whole = whole;
-              field = r;
-              room = rw on at room;
-              is-stored = sym stored;
-              is-computed = sym computed;
-              differ = λ z. failed fecf _ (q .0) (residue (lenFrame h) s oct (omega (arith, room)) whole .1 (computed ∙ sym z ∙ sym stored));
-            },
-          )
-
-    by-header : (o : Outcome PrimaryHeader) → headerReading s ≡ o → (fecf ≡ true) × WrongFecf s a b
-    by-header (refused k vs) r =
-        let six = number-one (sym (reading-header s fecf r) ∙ e) in
-        absurd (omega (arith, six, header-trip.reading-up-to s r))
-    by-header (done h) r =
-        elim (decLt (length s) (lenFrame h)) [
-          | yes l ↦ let six = number-one (sym (reading-short s fecf h r l) ∙ e) in absurd (omega arith)
-          | no l ↦ by-field h r (omega arith) (fieldReading (drop (lenHeader h) s)) refl
-        ]
+  by-way : frameReading s fecf ≡ refused 6 (a ∷ b ∷ []) → Way s → (fecf ≡ true) × WrongFecf s a b
+  by-way e (at-header k vs r) =
+      let six = number-one (sym (reading-header s fecf r) ∙ e) in
+      absurd (omega (arith, six, header-trip.reading-up-to s r))
+  by-way e (too-few h r l) = let six = number-one (sym (reading-short s fecf h r l) ∙ e) in absurd (omega (arith, six))
+  by-way e (at-field h header whole k vs r) =
+      let six = number-one (sym (reading-field s fecf h header whole r) ∙ e) in
+      absurd (omega (arith, six, field-reading.reading-up-to (drop (lenHeader h) s) r))
+  by-way e (to-body h header whole f r) =
+      let short = ltb (lenFrame h) (needed h f fecf) in
+      let wrong = fecf && not (eqb (checksumOf (take (lenFrame h) s)) 0) in
+      let p = later 7 _ short _ (λ z. omega arith) (sym (reading-body s fecf h header whole f r) ∙ e) in
+      let q = last 6 (storedFecf h s ∷ computedFecf h s ∷ []) wrong _ (p .1) in
+      let on = asked fecf (checksumOf (take (lenFrame h) s)) (q .0) in
+      let room : needed h f fecf ≤ lenFrame h = ltb-false (lenFrame h) (needed h f fecf) (p .0) in
+      let stored : storedFecf h s ≡ a = cc in
+      let computed : computedFecf h s ≡ b = cc in (
+        on,
+        record {
+          h = h;
+          f = f;
+          header = header;
+          whole = whole;
+          field = r;
+          room = rw on at room;
+          is-stored = sym stored;
+          is-computed = sym computed;
+          differ = λ z. failed fecf _ (q .0) (residue (lenFrame h) s oct (omega (arith, room)) whole .1 (computed ∙ sym z ∙ sym stored));
+        },
+      )
 
   pub refused-exactly : (frameReading s fecf ≡ refused 6 (a ∷ b ∷ [])) ↔ ((fecf ≡ true) × WrongFecf s a b)
   refused-exactly = (
-    λ e. by-header e (headerReading s) refl,
+    λ e. by-way e (way s),
     λ p.
         let w = p .1 in
         let tied = residue (lenFrame (w .h)) s oct (omega (arith, w .room)) (w .whole) in
