@@ -3,7 +3,7 @@ use mathlib.Core.Path.{_≡_, ap, _∙_}
 use Prim.Native.Nat.{ℕ, _+_, _-_, _*_, _≤_}
 use mathlib.Core.Bool.{Bool, true, cond}
 use mathlib.Core.List.{List}
-use native.Mathlib.Nat.{add-zero}
+use native.Mathlib.Nat.{add-zero, sub-zero}
 use native.Mathlib.Omega.{arith}
 use lib.ListN.{length, take, drop, getD, length-drop}
 use lib.Seq.{take-all}
@@ -42,6 +42,9 @@ frame-eq x s p q =
 
 -- parts of the octets, at a place that a local holds
 module _ (s : List ℕ) (m n : ℕ) (e : m ≡ n) where
+  pub first-part : take (m - 0) (drop 0 s) ≡ take n s
+  first-part = rw (sub-zero, e)
+
   pub rest-part : take (length s - m) (drop m s) ≡ drop n s
   rest-part = rw e (take-all (length s - n) (drop n s) (omega (arith, length-drop n s)))
 

@@ -1,11 +1,10 @@
 -- `read_body` meets its contract: at each `return` the tests that led there say which law of `frameReading` holds.
-use mathlib.Core.Path.{_≡_, ap₂, sym, _∙_}
+use mathlib.Core.Path.{_≡_, ap, ap₂, sym, _∙_}
 use mathlib.Core.Logic.{_↔_}
-use Prim.Native.Nat.{ℕ, _≤_}
+use Prim.Native.Nat.{ℕ, _-_, _≤_}
 use mathlib.Core.Bool.{false≢true}
 use mathlib.Core.List.{[], _∷_}
 use native.Mathlib.Omega.{arith}
-use native.Mathlib.Nat.{sub-zero}
 use lib.ListN.{take}
 use Rattle.uslp_checksum.specs.Checksum.{checksumOf}
 use Rattle.uslp_checksum.proofs.Laws.{residue}
@@ -13,7 +12,7 @@ use Rattle.uslp_kinds.specs.Outcome.{refused}
 use Rattle.uslp_primary_header.specs.Header.{lenFrame}
 use Rattle.uslp_layout.specs.Layout.{needed}
 use Rattle.uslp_reader.specs.Reader.{storedFecf, computedFecf}
-use Rattle.uslp_reader.proofs.Parts.{last-two}
+use Rattle.uslp_reader.proofs.Parts.{first-part, last-two}
 use Rattle.uslp_reader.proofs.Paths.{reading-too-short, reading-checksum, reading-frame}
 use borrow.Author.Needs.{needs}
 use Rattle.uslp_reader.proofs.read_body.Statement.{statement}
@@ -37,7 +36,9 @@ stored : (k : tie.After-checksum) → let a = startOf (elseOf k) .args in k .bef
 stored k = k .before .before .be-u16 .ensures ∙ last-two (startOf (elseOf k) .args .buf .now) _ _ (elseOf k .before .before .len-frame .ensures) (two k)
 
 computed : (k : tie.After-checksum) → let a = startOf (elseOf k) .args in k .checksum .result ≡ computedFecf (a .header) (a .buf .now)
-computed k = cc (k .checksum .ensures, elseOf k .before .before .len-frame .ensures, sub-zero _)
+computed k =
+    let less = ap (λ (n : ℕ). n - 2) (elseOf k .before .before .len-frame .ensures) in
+    k .checksum .ensures ∙ ap checksumOf (first-part (startOf (elseOf k) .args .buf .now) _ _ less)
 
 -- a frame passes where the two are equal, and only there
 tied : (k : tie.After-checksum) → let a = startOf (elseOf k) .args in
