@@ -2,11 +2,14 @@
 -- those demands shut out (`uslp_roundtrip/proofs/Wrong.antt`, `uslp_counting/proofs/Wrong.antt`) keep none of them. And none reports a too-long
 -- total wrapped.
 use mathlib.Core.Path.{_≡_, refl, sym, _∙_, subst}
-use mathlib.Core.List.{List, []}
+use mathlib.Core.Bool.{Bool, true}
+use mathlib.Core.Logic.{_↔_}
+use mathlib.Core.List.{List, [], _∷_}
 use Prim.Native.Nat.{ℕ}
 use native.Mathlib.Omega.{arith}
 use lib.ListN.{length}
-use Rattle.uslp_kinds.specs.Outcome.{done, leaving}
+use Rattle.uslp_octets.specs.Octets.{AreOctets}
+use Rattle.uslp_kinds.specs.Outcome.{Outcome, done, refused, leaving}
 use Rattle.uslp_kinds.specs.Answers.{paperLength}
 use Rattle.uslp_kinds.proofs.Back.{leaving-one}
 use Rattle.uslp_kinds.proofs.Outcomes.{not-done}
@@ -15,9 +18,12 @@ use Rattle.uslp_data_field_header.specs.Field.{fieldChecking}
 use Rattle.uslp_writer.proofs.Lengths.{length-long}
 use Rattle.uslp_writer.proofs.Paths.{writing-refused}
 use Rattle.uslp_reader.specs.Reader.{paperFrame}
+use Rattle.uslp_reader.specs.declared.TransferFrame.{TransferFrame}
 use Rattle.uslp_record.specs.Record.{keeping}
 use Rattle.uslp_hearing.specs.Hearing.{paperHear}
 use Rattle.uslp_roundtrip.specs.Samples.{plain}
+use Rattle.uslp_roundtrip.specs.Laid.{WrongFecf}
+use Rattle.uslp_roundtrip.proofs.Unequal.{refused-exactly}
 use Rattle.uslp_roundtrip.specs.Demand as frames
 use Rattle.uslp_roundtrip.proofs.Demand.{reads, writes}
 use Rattle.uslp_counting.specs.History as histories
@@ -42,6 +48,13 @@ hearerOf f r s fecf = keeping (paperHear (f ([], tt) (r, (at s, (fecf, tt))) .0 
 
 pub reader-demand : (f : Program fn-from-bytes) → Keeps fn-from-bytes f → frames.Demand2Reader (readerOf f)
 reader-demand f k = subst frames.Demand2Reader (λ i s fecf. sym (k ([], tt) (at s, (fecf, tt))) i) reads
+
+-- and it refuses with 6 exactly if the FECF as stored and as computed differ, and shows these two
+pub reader-unequal : (f : Program fn-from-bytes) → Keeps fn-from-bytes f → (s : List ℕ) → AreOctets s → (fecf : Bool) (a b : ℕ)
+    → (readerOf f s fecf ≡ refused 6 (a ∷ b ∷ [])) ↔ ((fecf ≡ true) × WrongFecf s a b)
+reader-unequal f k s oct fecf a b =
+    subst (λ (o : Outcome TransferFrame). (o ≡ refused 6 (a ∷ b ∷ [])) ↔ ((fecf ≡ true) × WrongFecf s a b)) (sym (k ([], tt) (at s, (fecf, tt))))
+    (refused-exactly s oct fecf a b)
 
 pub writer-demand : (f : Program fn-write-to-slice) → Keeps fn-write-to-slice f → frames.Demand2Writer (writerOf f)
 writer-demand f k = subst frames.Demand2Writer (λ i c d s. sym (k ([], ([], tt)) (c, (at d, (at s, tt)))) i) writes
