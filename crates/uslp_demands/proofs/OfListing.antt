@@ -10,8 +10,9 @@ use Rattle.uslp_kinds.specs.declared.Refusal.the-variants.{ShortTarget}
 use Rattle.uslp_primary_header.specs.Header.{headerReading}
 use Rattle.uslp_data_field_header.specs.Field.{fieldReading}
 use Rattle.uslp_reader.specs.Reader.{frameReading}
+use Rattle.uslp_reader.specs.EndToEnd.{cutUpTo}
 use Rattle.uslp_text.specs.Text.{widthIn}
-use Rattle.uslp_listing.specs.Listing.{linesFrom, listing, listingOver}
+use Rattle.uslp_listing.specs.Listing.{lines, listing, listingOver}
 use Rattle.uslp_listing.proofs as listing-proofs
 use Rattle.uslp_demands.specs.Promise.{Function, function, at, Allows, Settles}
 use Rattle.uslp_roundtrip.specs.Samples.{octetsF}
@@ -43,5 +44,5 @@ pub listing-F : listing octetsF ≡ 97 ∷ 116 ∷ 32 ∷ 108 ∷ 101 ∷ 110 �
     32 ∷ 99 ∷ 104 ∷ 97 ∷ 110 ∷ 110 ∷ 101 ∷ 108 ∷ 32 ∷ 109 ∷ 97 ∷ 112 ∷ 32 ∷ 99 ∷ 111 ∷ 117 ∷ 110 ∷ 116 ∷ 32 ∷ 100 ∷ 97 ∷ 116 ∷ 97 ∷ 10 ∷ 48 ∷ 32 ∷
     49 ∷ 49 ∷ 32 ∷ 52 ∷ 54 ∷ 54 ∷ 48 ∷ 32 ∷ 53 ∷ 32 ∷ 51 ∷ 32 ∷ 55 ∷ 32 ∷ 50 ∷ 10 ∷ 102 ∷ 114 ∷ 97 ∷ 109 ∷ 101 ∷ 115 ∷ 32 ∷ 49 ∷ 32 ∷ 115 ∷ 116 ∷
     111 ∷ 112 ∷ 112 ∷ 101 ∷ 100 ∷ 32 ∷ 49 ∷ 49 ∷ 32 ∷ 97 ∷ 110 ∷ 115 ∷ 119 ∷ 101 ∷ 114 ∷ 32 ∷ 48 ∷ 10 ∷ []
-unfolding listing linesFrom frameReading headerReading fieldReading widthIn
+unfolding listing lines cutUpTo frameReading headerReading fieldReading widthIn
 listing-F = refl

@@ -18,6 +18,10 @@ refused-any {j} {k} {us} {vs} e =
     let b : us ≡ vs = cc in
     cc
 
+-- a refusal's number
+pub number-one : {A : Type 0} {j k : ℕ} {us vs : List ℕ} → _≡_ {A = Outcome A} (refused j us) (refused k vs) → j ≡ k
+number-one e = cc
+
 pub done-one : {A : Type 0} {x y : A} → done x ≡ done y → x ≡ y
 done-one e = cc
 

@@ -1,21 +1,25 @@
 -- What the definitions of the listing say, path by path, and how long its lines are.
-use mathlib.Core.Path.{_≡_, refl, ap, ap₂, sym}
-use Prim.Native.Nat.{ℕ, zero, suc, _+_, _-_, _^_, _<_, _≤_}
+use mathlib.Core.Path.{_≡_, refl, ap, ap₂, sym, _∙_}
+use Prim.Native.Nat.{ℕ, suc, _+_, _-_, _^_, _<_, _≤_}
 use mathlib.Core.Bool.{Bool, false, cond}
-use mathlib.Core.List.{List, [], _∷_, _++_}
+use mathlib.Core.List.{List, [], _∷_, _++_, append-assoc}
+use native.Mathlib.Nat.{zero-add}
 use native.Mathlib.Omega.{arith}
 use borrow.Author.Tests.{lt-ltb, le-ltb}
 use lib.Dec.{ltb}
-use lib.ListN.{length, drop, length-append}
+use lib.ListN.{length, drop, length-append, length-drop}
 use Rattle.uslp_kinds.specs.Outcome.{Outcome, done, refused, leaving}
 use Rattle.uslp_kinds.proofs.Outcomes.{done-one, passed, written-done}
 use Rattle.uslp_primary_header.specs.Header.{lenFrame}
 use Rattle.uslp_reader.specs.Reader.{frameReading}
+use Rattle.uslp_reader.specs.EndToEnd.{Cut, cut, stopping}
 use Rattle.uslp_reader.specs.declared.TransferFrame.{TransferFrame}
+use Rattle.uslp_reader.proofs.Done.{read-done}
+use Rattle.uslp_reader.proofs.EndToEnd.{nothing, cut-refused, cut-more, cut-end, stopping-refused, rest-short}
 use Rattle.uslp_text.specs.Text.{decimal, Told}
 use Rattle.uslp_text.proofs.Width.{decimal-short}
 use Rattle.uslp_text.proofs.Telling.{told-whole}
-use Rattle.uslp_listing.specs.Listing.{heading, word, line, summary, linesFrom, listing, room, listingOver}
+use Rattle.uslp_listing.specs.Listing.{heading, word, line, summary, lines, answerOf, linesOf, listing, room, listingOver}
 
 word-short : (k n : ℕ) → n < 10 ^ suc k → length (word n) ≤ 2 + k
 word-short k n h = omega (arith, decimal-short k n h, length-append (decimal n) (32 ∷ []))
@@ -55,34 +59,66 @@ summary-short frames place answer h k l =
     let c = decimal-short 2 answer (omega arith) in
     simp length-append (omega arith)
 
--- the lines behind a reading: at the end, at a frame, at a refusal
-pub lines-end : (most place frames : ℕ) → linesFrom most [] place frames ≡ summary frames place 0
+-- what is told of the octets s from a place on, after so many frames
+unfoldable pub linesFrom : ℕ → ℕ → List ℕ → List ℕ
+linesFrom place frames s =
+    let c = cut false s in
+    lines place (c .frames) ++ summary (frames + length (c .frames)) (place + (length s - length (c .rest))) (answerOf (stopping false (c .rest)))
+
+-- by what is cut off
+lines-by : (place frames : ℕ) (s : List ℕ) {c : Cut} → cut false s ≡ c
+    → linesFrom place frames s
+    ≡ lines place (c .frames) ++ summary (frames + length (c .frames)) (place + (length s - length (c .rest))) (answerOf (stopping false (c .rest)))
 unfolding linesFrom
-lines-end zero place frames = refl
-lines-end (suc most) place frames = refl
+lines-by place frames s e =
+    ap (λ (c : Cut). lines place (c .frames) ++ summary (frames + length (c .frames)) (place + (length s - length (c .rest)))
+    (answerOf (stopping false (c .rest)))) e
 
+pub lines-all : (s : List ℕ) → linesFrom 0 0 s ≡ linesOf s
+unfolding linesFrom
+lines-all s =
+    let c = cut false s in
+    ap₂ (λ (a b : ℕ). lines 0 (c .frames) ++ summary a b (answerOf (stopping false (c .rest)))) (zero-add (length (c .frames)))
+    (zero-add (length s - length (c .rest)))
+
+-- the lines behind a reading: at the end, at a frame, at a refusal
 module _ (place frames : ℕ) where
-  pub lines-more : (most : ℕ) (s : List ℕ) (x : TransferFrame) → 0 < most → 0 < length s → frameReading s false ≡ done x
-      → linesFrom most s place frames ≡ line place x ++ linesFrom (most - 1) (drop (lenFrame (x .«primary_header»)) s)
-      (place + lenFrame (x .«primary_header»)) (suc frames)
-  unfolding linesFrom
-  lines-more zero s x h k e = absurd (omega arith)
-  lines-more (suc most) [] x h k e = absurd (omega arith)
-  lines-more (suc most) (o ∷ s) x h k e = let z : suc most - 1 ≡ most = omega arith in rw (e, z)
+  none : {s : List ℕ} {k : ℕ} → cut false s ≡ nothing s → answerOf (stopping false s) ≡ k → linesFrom place frames s ≡ summary frames place k
+  unfolding lines
+  none {s} {k} c e =
+      let a : frames + 0 ≡ frames = omega arith in
+      let b : place + (length s - length s) ≡ place = omega arith in
+      lines-by place frames s c ∙ ap (λ (n : ℕ). summary (frames + 0) (place + (length s - length s)) n) e
+      ∙ ap₂ (λ (m n : ℕ). summary m n k) a b
 
-  pub lines-refused : (most : ℕ) (s : List ℕ) {k : ℕ} {vs : List ℕ} → 0 < most → 0 < length s → frameReading s false ≡ refused k vs
-      → linesFrom most s place frames ≡ summary frames place k
-  unfolding linesFrom
-  lines-refused zero s h l e = absurd (omega arith)
-  lines-refused (suc most) [] h l e = absurd (omega arith)
-  lines-refused (suc most) (o ∷ s) h l e = rw e
+  pub lines-end : linesFrom place frames [] ≡ summary frames place 0
+  lines-end = none (cut-end false) refl
+
+  pub lines-refused : (s : List ℕ) {k : ℕ} {vs : List ℕ} → 0 < length s → frameReading s false ≡ refused k vs → linesFrom place frames s ≡ summary frames place k
+  lines-refused s h e = none (cut-refused false s e) (ap answerOf (stopping-refused false s h e))
+
+  pub lines-more : (s : List ℕ) (x : TransferFrame) → frameReading s false ≡ done x
+      → linesFrom place frames s
+      ≡ line place x ++ linesFrom (place + lenFrame (x .«primary_header»)) (frames + 1) (drop (lenFrame (x .«primary_header»)) s)
+  unfolding lines linesFrom
+  lines-more s x e =
+      let n = lenFrame (x .«primary_header») in
+      let c = cut false (drop n s) in
+      let less = length-drop n s in
+      let short = rest-short false (drop n s) in
+      let whole = read-done s false x e .whole in
+      let a : frames + suc (length (c .frames)) ≡ frames + 1 + length (c .frames) = omega arith in
+      let b : place + (length s - length (c .rest)) ≡ place + n + (length (drop n s) - length (c .rest)) = omega arith in
+      lines-by place frames s (cut-more false s x e)
+      ∙ append-assoc (line place x) (lines (place + n) (c .frames)) _
+      ∙ ap₂ (λ (i j : ℕ). line place x ++ (lines (place + n) (c .frames) ++ summary i j (answerOf (stopping false (c .rest))))) a b
 
 -- the whole text: too long, or line by line
 pub listing-long : (s : List ℕ) → 65536 < length s → listing s ≡ heading ++ summary 0 0 12
 unfolding listing
 listing-long s h = simp (lt-ltb 65536 (length s) h)
 
-pub listing-lines : (s : List ℕ) → length s ≤ 65536 → listing s ≡ heading ++ linesFrom (length s) s 0 0
+pub listing-lines : (s : List ℕ) → length s ≤ 65536 → listing s ≡ heading ++ linesOf s
 unfolding listing
 listing-lines s h = simp (le-ltb 65536 (length s) h)
 

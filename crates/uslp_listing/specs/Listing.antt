@@ -1,12 +1,12 @@
 -- The listing of a recording (docs/RULES.md, section 8): a line for each frame without FECF, end to end, until a refusal or the end.
-use Prim.Native.Nat.{ℕ, zero, suc, _+_}
+use Prim.Native.Nat.{ℕ, _+_, _-_}
 use mathlib.Core.Bool.{false, cond}
 use mathlib.Core.List.{List, [], _∷_, _++_}
 use lib.ListN.{length, drop}
 use lib.Dec.{ltb}
 use Rattle.uslp_kinds.specs.Outcome.{Outcome, done, refused, Written, written, firstOf}
 use Rattle.uslp_primary_header.specs.Header.{lenFrame}
-use Rattle.uslp_reader.specs.Reader.{frameReading}
+use Rattle.uslp_reader.specs.EndToEnd.{cut, stopping}
 use Rattle.uslp_reader.specs.declared.TransferFrame.{TransferFrame}
 use Rattle.uslp_text.specs.Text.{text, decimal}
 
@@ -32,24 +32,25 @@ abbrev pub summary : ℕ → ℕ → ℕ → List ℕ
 summary frames at answer =
     text "frames " ++ (decimal frames ++ (text " stopped " ++ (decimal at ++ (text " answer " ++ (decimal answer ++ text "\n")))))
 
--- what follows a reading: the frame's line and those behind it, or the end
-abbrev pub afterFrame : Outcome TransferFrame → (TransferFrame → List ℕ) → (ℕ → List ℕ) → List ℕ
-afterFrame (done x) next stop = next x
-afterFrame (refused k vs) next stop = stop k
+-- the lines of frames that stand one behind the other from a place on
+unfoldable pub lines : ℕ → List (TransferFrame × List ℕ) → List ℕ
+lines at [] = []
+lines at (f ∷ fs) = line at (f .0) ++ lines (at + lenFrame (f .0 .«primary_header»)) fs
 
--- the lines from a place on, after so many frames; nothing left is the end, answer 0. The first number bounds the frames.
-unfoldable pub linesFrom : ℕ → List ℕ → ℕ → ℕ → List ℕ
-linesFrom zero s at frames = summary frames at 0
-linesFrom (suc most) [] at frames = summary frames at 0
-linesFrom (suc most) (o ∷ s) at frames =
-    afterFrame (frameReading (o ∷ s) false)
-    (λ (x : TransferFrame).
-    line at x ++ linesFrom most (drop (lenFrame (x .«primary_header»)) (o ∷ s)) (at + lenFrame (x .«primary_header»)) (suc frames))
-    (λ (k : ℕ). summary frames at k)
+-- nothing left is the end, answer 0
+abbrev pub answerOf : Outcome (Unit {0}) → ℕ
+answerOf (done u) = 0
+answerOf (refused k vs) = k
 
--- the whole text; each frame has an octet or more, so there are no more frames than octets
+-- the lines of the frames end to end, then how many they are, the place reached, and why nothing more was read there
+abbrev pub linesOf : List ℕ → List ℕ
+linesOf s =
+    let c = cut false s in
+    lines 0 (c .frames) ++ summary (length (c .frames)) (length s - length (c .rest)) (answerOf (stopping false (c .rest)))
+
+-- the whole text
 unfoldable pub listing : List ℕ → List ℕ
-listing s = heading ++ cond (ltb 65536 (length s)) (summary 0 0 12) (linesFrom (length s) s 0 0)
+listing s = heading ++ cond (ltb 65536 (length s)) (summary 0 0 12) (linesOf s)
 
 -- a buffer of this length holds the listing of any recording
 abbrev pub room : ℕ

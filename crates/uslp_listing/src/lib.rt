@@ -12,7 +12,7 @@ ghost use lib.ListN.{length};
 ghost use Rattle.uslp_kinds.specs.Outcome.{leaving};
 ghost use Rattle.uslp_kinds.specs.Answers.{paperLength};
 ghost use Rattle.uslp_text.specs.Text.{decimal, Told};
-ghost use Rattle.uslp_listing.specs.Listing.{heading, line, summary, linesFrom, room, listingOver};
+ghost use Rattle.uslp_listing.specs.Listing.{heading, line, summary, linesOf, room, listingOver};
 
 // The most octets that a recording may have.
 pub const MAX_RECORDING_LEN: usize = 65536;
@@ -41,8 +41,8 @@ pub fn list(recording: &[u8], out: &mut [u8]) -> LengthAnswer
 // The lines of the frames, end to end, and the summary. Behind the heading they have their room.
 fn put_lines(recording: &[u8], out: &mut [u8], start: usize) -> usize
     requires { ⌜ length (now recording) ≤ 65536 ⌝ }
-    ensures { λ r. ⌜ Told (linesFrom (length (now (recording .entry))) (now (recording .entry)) 0 0) start (now (out .entry)) r (now (out .exit)) ⌝ }
-    ensures { λ _. ⌜ length (heading ++ linesFrom (length (now (recording .entry))) (now (recording .entry)) 0 0) ≤ room ⌝ }
+    ensures { λ r. ⌜ Told (linesOf (now (recording .entry))) start (now (out .entry)) r (now (out .exit)) ⌝ }
+    ensures { λ _. ⌜ length (heading ++ linesOf (now (recording .entry))) ≤ room ⌝ }
 {
     let mut at = start;
     let mut place: usize = 0;

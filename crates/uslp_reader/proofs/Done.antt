@@ -2,18 +2,22 @@
 use mathlib.Core.Path.{_≡_, refl, ap, sym, _∙_, subst}
 use Prim.Native.Nat.{ℕ, _-_, _≤_}
 use mathlib.Core.Bool.{Bool, true, false, not, _&&_, false≢true}
-use mathlib.Core.List.{List}
+use mathlib.Core.List.{List, [], _∷_}
+use native.Mathlib.Omega.{arith}
 use borrow.Author.Tests.{ltb-false, eqb-true, not-false}
 use lib.ListN.{length, take, drop}
-use lib.Dec.{eqb}
+use lib.Dec.{eqb, ltb, lit≤}
 use Rattle.uslp_checksum.specs.Checksum.{checksumOf}
-use Rattle.uslp_kinds.specs.Outcome.{done}
-use Rattle.uslp_kinds.proofs.Outcomes.{not-done, done-one, passed}
+use Rattle.uslp_kinds.specs.Outcome.{done, refused}
+use Rattle.uslp_kinds.proofs.Firsts.{first-up-to}
+use Rattle.uslp_kinds.proofs.Outcomes.{not-done, number-one, done-one, passed}
 use Rattle.uslp_kinds.proofs.Back.{back, refusal-back}
 use Rattle.uslp_primary_header.specs.Header.{lenHeader, lenFrame, headerReading}
+use Rattle.uslp_primary_header.proofs.RoundTrip as header-trip
 use Rattle.uslp_data_field_header.specs.Field.{fieldReading}
+use Rattle.uslp_data_field_header.proofs.Reading as field-reading
 use Rattle.uslp_layout.specs.Layout.{needed}
-use Rattle.uslp_reader.specs.Reader.{paperFrame, frameWith, frameReading}
+use Rattle.uslp_reader.specs.Reader.{paperFrame, frameWith, storedFecf, computedFecf, frameReading}
 use Rattle.uslp_reader.specs.declared.TransferFrame.{TransferFrame}
 use Rattle.uslp_reader.specs.declared.FrameAnswer.{FrameAnswer}
 use Rattle.uslp_reader.specs.declared.FrameAnswer.the-variants as frame-answer
@@ -60,6 +64,24 @@ pub done-reads : (s : List ℕ) (fecf : Bool) (x : TransferFrame) → ReadDone s
 done-reads s fecf x r =
     reading-done s fecf (x .«primary_header») (r .header) (r .whole) (x .«data_field_header») (r .field) (r .room) (r .check)
     ∙ ap done (sym (r .frame))
+
+-- the reader's refusals are 1 and 3 to 7
+module _ (s : List ℕ) (fecf : Bool) {k : ℕ} {vs : List ℕ} (e : frameReading s fecf ≡ refused k vs) where
+  by-number : Way s → k ≤ 7
+  by-number (at-header j us r) = omega (arith, number-one (sym (reading-header s fecf r) ∙ e), header-trip.reading-up-to s r)
+  by-number (too-few h r l) = omega (arith, number-one (sym (reading-short s fecf h r l) ∙ e))
+  by-number (at-field h header whole j us r) =
+      omega (arith, number-one (sym (reading-field s fecf h header whole r) ∙ e), field-reading.reading-up-to (drop (lenHeader h) s) r)
+  by-number (to-body h header whole f r) =
+      first-up-to 7
+      ((ltb (lenFrame h) (needed h f fecf), 7, lenFrame h ∷ needed h f fecf ∷ [])
+      ∷ (fecf && not (eqb (checksumOf (take (lenFrame h) s)) 0), 6, storedFecf h s ∷ computedFecf h s ∷ [])
+      ∷ [])
+      (done (frameWith h f (lenFrame h - needed h f fecf) s)) (lit≤ tt, (lit≤ tt, tt)) (λ d. absurd (not-done (sym d)))
+      (sym (reading-body s fecf h header whole f r) ∙ e)
+
+  pub reading-up-to : k ≤ 7
+  reading-up-to = by-number (way s)
 
 pub frame-back : (r : FrameAnswer) → back frame-answer.Done frame-answer.Refused (paperFrame r) ≡ r
 frame-back (frame-answer.Done x) = refl

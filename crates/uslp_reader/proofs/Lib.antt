@@ -1,3 +1,4 @@
 pub mod Done
 pub mod Parts
 pub mod Paths
+pub mod EndToEnd

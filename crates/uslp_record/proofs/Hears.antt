@@ -4,17 +4,18 @@ use mathlib.Core.Bool.{Bool, true, false, not}
 use mathlib.Core.List.{List, [], _∷_}
 use Prim.Native.Nat.{ℕ, _<_, _≤_}
 use native.Mathlib.Omega.{arith}
-use lib.Dec.{eqb, leb}
+use lib.Dec.{eqb, leb, ltb}
 use borrow.Author.Tests.{lt-ltb, le-ltb, le-leb, lt-leb, eq-eqb, ne-eqb}
-use Rattle.uslp_kinds.specs.Outcome.{done, refused, firstOf}
+use Rattle.uslp_kinds.specs.Outcome.{Outcome, done, refused, firstOf}
 use Rattle.uslp_kinds.proofs.Outcomes.{not-done}
 use Rattle.uslp_record.proofs.Count.{full-after}
-use Rattle.uslp_record.specs.Slots.{find, stateAt}
-use Rattle.uslp_record.specs.Judging.{ahead, arrivalOf, totalsAfter, firstTotals, overfull, arrivalAt, totalsAt, widthAt, judging}
+use Rattle.uslp_record.specs.Slots.{find, slotOf, stateAt}
+use Rattle.uslp_record.specs.Judging.{ahead, arrivalOf, totalsAfter, firstTotals, overfull, arrivalAt, totalsAt, widthAt, judging, slotJudging}
 use Rattle.uslp_record.specs.declared.Channel.{Channel}
 use Rattle.uslp_record.specs.declared.Totals.{Totals}
 use Rattle.uslp_record.specs.declared.SlotState.{SlotState}
 use Rattle.uslp_record.specs.declared.SlotState.the-variants.{Heard}
+use Rattle.uslp_record.specs.declared.Slot.{Slot}
 use Rattle.uslp_record.specs.declared.ChannelRecord.{ChannelRecord}
 use Rattle.uslp_record.specs.declared.Arrival.{Arrival}
 use Rattle.uslp_record.specs.declared.Arrival.the-variants.{New}
@@ -50,6 +51,39 @@ others false true c x us e = let z : _≡_ {A = ℕ} 14 10 = cc in omega arith
 others false false true x us e = let z : _≡_ {A = ℕ} 17 10 = cc in omega arith
 others false false false x us e = not-done (sym e)
 
+-- the slot that holds the channel, by its checks
+module _ (x : Slot) (k : Channel) (w n : ℕ) where
+  pub slot-wide : 7 < w → slotJudging x k w n ≡ refused 10 []
+  unfolding slotJudging
+  slot-wide h = simp (lt-ltb 7 w h)
+
+  module _ (narrow : w ≤ 7) (v : ℕ) (opened : v ≡ widthAt (x .state)) where
+    pub slot-width : (w ≡ v → ⊥) → slotJudging x k w n ≡ refused 14 (w ∷ v ∷ [])
+    unfolding slotJudging
+    slot-width h = rw (← opened) (simp (le-ltb 7 w narrow, ne-eqb w v h))
+
+    module _ (s : Step) (same : w ≡ v) (step : Steps s (arrivalAt (x .state) n) (totalsAt (x .state) n)) where
+      pub slot-full : s .full ≡ true → slotJudging x k w n ≡ refused 17 []
+      unfolding slotJudging
+      slot-full h = rw (← opened) (simp (le-ltb 7 w narrow, eq-eqb w v same, sym (step .0) ∙ h))
+
+      pub slot-done : s .full ≡ false → slotJudging x k w n ≡ done (s .arrival, slotOf (Heard k w (s .totals)))
+      unfolding slotJudging
+      slot-done h = rw (← opened, step .1, step .2 h) (simp (le-ltb 7 w narrow, eq-eqb w v same, sym (step .0) ∙ h))
+
+-- what is judged of the slot at a place, as a change
+abbrev pub changing : ℕ → Outcome (Arrival × Slot) → Outcome (Arrival × Change)
+changing i (done y) = done (y .0, record { at = i; state = y .1 .state })
+changing i (refused j vs) = refused j vs
+
+changing-first : (i : ℕ) (a b c : Bool) (us vs : List ℕ) (x : Arrival) (t : SlotState)
+    → firstOf ((a, refused 10 []) ∷ (b, refused 14 us) ∷ (c, refused 17 vs) ∷ []) (done (x, record { at = i; state = t }))
+    ≡ changing i (firstOf ((a, refused 10 []) ∷ (b, refused 14 us) ∷ (c, refused 17 vs) ∷ []) (done (x, slotOf t)))
+changing-first i true b c us vs x t = refl
+changing-first i false true c us vs x t = refl
+changing-first i false false true us vs x t = refl
+changing-first i false false false us vs x t = refl
+
 module _ (r : ChannelRecord) (k : Channel) (w n : ℕ) where
   pub judging-wide : 7 < w → judging r k w n ≡ refused 10 []
   unfolding judging
@@ -60,20 +94,12 @@ module _ (r : ChannelRecord) (k : Channel) (w n : ℕ) where
     unfolding judging
     judging-none h = rw (← is) (simp (le-ltb 7 w narrow, le-leb 8 i h))
 
-    module _ (there : i < 8) (v : ℕ) (opened : v ≡ widthAt (stateAt r i)) where
-      pub judging-width : (w ≡ v → ⊥) → judging r k w n ≡ refused 14 (w ∷ v ∷ [])
-      unfolding judging
-      judging-width h = rw (← is, ← opened) (simp (le-ltb 7 w narrow, lt-leb 8 i there, ne-eqb w v h))
-
-      module _ (s : Step) (same : w ≡ v) (step : Steps s (arrivalAt (stateAt r i) n) (totalsAt (stateAt r i) n)) where
-        pub judging-full : s .full ≡ true → judging r k w n ≡ refused 17 []
-        unfolding judging
-        judging-full h = rw (← is, ← opened) (simp (le-ltb 7 w narrow, lt-leb 8 i there, eq-eqb w v same, sym (step .0) ∙ h))
-
-        pub judging-done : s .full ≡ false → judging r k w n ≡ done (s .arrival, record { at = i; state = Heard k w (s .totals) })
-        unfolding judging
-        judging-done h =
-            rw (← is, ← opened, step .1, step .2 h) (simp (le-ltb 7 w narrow, lt-leb 8 i there, eq-eqb w v same, sym (step .0) ∙ h))
+    -- a channel that is found is judged by its slot
+    pub judging-slot : i < 8 → judging r k w n ≡ changing i (slotJudging (slotOf (stateAt r i)) k w n)
+    unfolding judging slotJudging
+    judging-slot there = rw (← is) (simp (lt-leb 8 i there)
+        (changing-first i (ltb 7 w) (not (eqb w (widthAt (stateAt r i)))) (overfull (totalsAt (stateAt r i) n)) (w ∷ widthAt (stateAt r i) ∷ []) []
+        (arrivalAt (stateAt r i) n) (Heard k w (totalsAt (stateAt r i) n))))
 
   -- a width that a frame has is never a bad field
   pub judging-field : w ≤ 7 → {vs : List ℕ} → judging r k w n ≡ refused 10 vs → ⊥
@@ -82,20 +108,24 @@ module _ (r : ChannelRecord) (k : Channel) (w n : ℕ) where
       let i = find k (r .slots) in
       others (leb 8 i) (not (eqb w (widthAt (stateAt r i)))) (overfull (totalsAt (stateAt r i) n)) _ _ (simp (le-ltb 7 w narrow) at e)
 
--- a frame of the channel in its width, by whether a total is full, for whoever knows the slot
+-- a frame of the channel, for whoever knows what stands in its slot
 module _ (r : ChannelRecord) (k : Channel) (w n : ℕ) (narrow : w ≤ 7) (there : find k (r .slots) < 8) (u : SlotState)
-    (is : stateAt r (find k (r .slots)) ≡ u) (wide : w ≡ widthAt u) where
-  abbrev own : Bool → Step
-  own b = record { full = b; arrival = arrivalAt (stateAt r (find k (r .slots))) n; totals = totalsAt (stateAt r (find k (r .slots))) n }
+    (is : stateAt r (find k (r .slots)) ≡ u) where
+  by-slot : {o : Outcome (Arrival × Slot)} → slotJudging (slotOf u) k w n ≡ o → judging r k w n ≡ changing (find k (r .slots)) o
+  by-slot e =
+      judging-slot r k w n narrow (find k (r .slots)) refl there
+      ∙ ap (changing (find k (r .slots))) (ap (λ (t : SlotState). slotJudging (slotOf t) k w n) is ∙ e)
 
-  pub judged-full : overfull (totalsAt u n) ≡ true → judging r k w n ≡ refused 17 []
-  judged-full e =
-      judging-full r k w n narrow (find k (r .slots)) refl there w (wide ∙ ap widthAt (sym is)) (own true) refl
-      (sym (ap (λ (v : SlotState). overfull (totalsAt v n)) is ∙ e), refl, λ f. refl) refl
+  pub judged-width : (w ≡ widthAt u → ⊥) → judging r k w n ≡ refused 14 (w ∷ widthAt u ∷ [])
+  judged-width odd = by-slot (slot-width (slotOf u) k w n narrow (widthAt u) refl odd)
 
-  pub judged-done : overfull (totalsAt u n) ≡ false
-      → judging r k w n ≡ done (arrivalAt u n, record { at = find k (r .slots); state = Heard k w (totalsAt u n) })
-  judged-done e =
-      judging-done r k w n narrow (find k (r .slots)) refl there w (wide ∙ ap widthAt (sym is)) (own false) refl
-      (sym (ap (λ (v : SlotState). overfull (totalsAt v n)) is ∙ e), refl, λ f. refl) refl
-      ∙ ap (λ (v : SlotState). done (arrivalAt v n, record { at = find k (r .slots); state = Heard k w (totalsAt v n) })) is
+  module _ (wide : w ≡ widthAt u) where
+    abbrev own : Bool → Step
+    own b = record { full = b; arrival = arrivalAt u n; totals = totalsAt u n }
+
+    pub judged-full : overfull (totalsAt u n) ≡ true → judging r k w n ≡ refused 17 []
+    judged-full e = by-slot (slot-full (slotOf u) k w n narrow w wide (own true) refl (sym e, refl, λ f. refl) refl)
+
+    pub judged-done : overfull (totalsAt u n) ≡ false
+        → judging r k w n ≡ done (arrivalAt u n, record { at = find k (r .slots); state = Heard k w (totalsAt u n) })
+    judged-done e = by-slot (slot-done (slotOf u) k w n narrow w wide (own false) refl (sym e, refl, λ f. refl) refl)

@@ -7,3 +7,4 @@ pub mod Back
 pub mod Slots
 pub mod Ways
 pub mod Keeps
+pub mod Sums

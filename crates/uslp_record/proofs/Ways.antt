@@ -7,11 +7,12 @@ use borrow.Author.Tests.{ltb-false, leb-false, eqb-true, not-false}
 use lib.Dec.{eqb, leb, ltb}
 use Rattle.uslp_kinds.specs.Outcome.{Outcome, done, refused, firstOf}
 use Rattle.uslp_kinds.proofs.Firsts.{Check, refusing, Passing, first-done}
-use Rattle.uslp_record.specs.Slots.{find, vacant, stateAt, put}
+use Rattle.uslp_record.specs.Slots.{find, vacant, slotOf, stateAt, put}
 use Rattle.uslp_record.specs.Record.{Kept, keeping, kept, opening, closing}
-use Rattle.uslp_record.specs.Judging.{overfull, arrivalAt, totalsAt, widthAt, judging}
+use Rattle.uslp_record.specs.Judging.{overfull, arrivalAt, totalsAt, widthAt, judging, slotJudging}
 use Rattle.uslp_record.specs.declared.Channel.{Channel}
 use Rattle.uslp_record.specs.declared.SlotState.the-variants.{Closed, Opened, Heard}
+use Rattle.uslp_record.specs.declared.Slot.{Slot}
 use Rattle.uslp_record.specs.declared.ChannelRecord.{ChannelRecord}
 use Rattle.uslp_record.specs.declared.Arrival.{Arrival}
 use Rattle.uslp_record.specs.declared.Change.{Change}
@@ -71,3 +72,15 @@ module _ (r : ChannelRecord) (k : Channel) where
       ∷ [])
       (arrivalAt (stateAt r i) n, changeFor w n) f
       (λ p. g (record { narrow = ltb-false 7 w (p 0); low = leb-false 8 i (p 1); wide = eqb-true w (widthAt (stateAt r i)) (not-false _ (p 2)); room = p 3 }))
+
+-- the same of the slot that holds the channel
+pub slot-ways : (x : Slot) (k : Channel) (P : Outcome (Arrival × Slot) → Type 0) (w n : ℕ) → ((j : ℕ) (vs : List ℕ) → P (refused j vs))
+    → (overfull (totalsAt (x .state) n) ≡ false → P (done (arrivalAt (x .state) n, slotOf (Heard k w (totalsAt (x .state) n))))) → P (slotJudging x k w n)
+unfolding slotJudging
+slot-ways x k P w n f g =
+    ways P
+    ((ltb 7 w, 10, [])
+    ∷ (not (eqb w (widthAt (x .state))), 14, w ∷ widthAt (x .state) ∷ [])
+    ∷ (overfull (totalsAt (x .state) n), 17, [])
+    ∷ [])
+    (arrivalAt (x .state) n, slotOf (Heard k w (totalsAt (x .state) n))) f (λ p. g (p 2))

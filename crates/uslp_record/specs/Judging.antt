@@ -1,11 +1,11 @@
 -- Hearing a frame of a channel, as numbers (docs/RULES.md, section 6.3): NEW, REPEAT or LATE, and the totals that it leaves.
 use Prim.Native.Nat.{ℕ, _+_, _-_, _^_, _%_, _/_}
 use mathlib.Core.Bool.{Bool, cond, not, _||_}
-use mathlib.Core.List.{[], _∷_}
+use mathlib.Core.List.{List, [], _∷_}
 use lib.Dec.{eqb, leb, ltb}
 use Rattle.uslp_kinds.specs.Outcome.{Outcome, done, refused, firstOf}
 use Rattle.uslp_kinds.specs.Answers.{refusal}
-use Rattle.uslp_record.specs.Slots.{find, stateAt, changed}
+use Rattle.uslp_record.specs.Slots.{find, slotOf, stateAt, changed}
 use Rattle.uslp_record.specs.Record.{Kept, keeping, most}
 use Rattle.uslp_record.specs.declared.Channel.{Channel}
 use Rattle.uslp_record.specs.declared.Totals.{Totals}
@@ -17,10 +17,17 @@ use Rattle.uslp_record.specs.declared.Arrival.the-variants.{New, Repeat,
 use Rattle.uslp_record.specs.declared.Change.{Change}
 use Rattle.uslp_record.specs.declared.CountAnswer.{CountAnswer}
 use Rattle.uslp_record.specs.declared.CountAnswer.the-variants as count-answer
+use Rattle.uslp_record.specs.declared.Slot.{Slot}
+use Rattle.uslp_record.specs.declared.SlotAnswer.{SlotAnswer}
+use Rattle.uslp_record.specs.declared.SlotAnswer.the-variants as slot-answer
 
 abbrev pub paperCount : CountAnswer → Outcome (Arrival × Change)
 paperCount (count-answer.Done arrival change) = done (arrival, change)
 paperCount (count-answer.Refused r) = refusal r
+
+abbrev pub paperSlot : SlotAnswer → Outcome (Arrival × Slot)
+paperSlot (slot-answer.Done arrival next) = done (arrival, next)
+paperSlot (slot-answer.Refused r) = refusal r
 
 -- new count less last by wrapping subtraction, reduced to the width
 abbrev pub ahead : ℕ → ℕ → ℕ → ℕ
@@ -59,20 +66,32 @@ widthAt Closed = 0
 widthAt (Opened channel width) = width
 widthAt (Heard channel width t) = width
 
+-- a frame with this width and count, by what stands in its channel's slot: 14, 17
+abbrev pub slotChecks : {A : Type 0} → SlotState → ℕ → ℕ → List (Bool × Outcome A)
+slotChecks t width count =
+    (not (eqb width (widthAt t)), refused 14 (width ∷ widthAt t ∷ []))
+    ∷ (overfull (totalsAt t count), refused 17 [])
+    ∷ []
+
 -- a channel's frame with this width and count, and what it changes: 10 for a width that no frame has, 13, 14, 17
 unfoldable pub judging : ChannelRecord → Channel → ℕ → ℕ → Outcome (Arrival × Change)
 judging r k width count =
     firstOf
     ((ltb 7 width, refused 10 [])
     ∷ (leb 8 (find k (r .slots)), refused 13 [])
-    ∷ (not (eqb width (widthAt (stateAt r (find k (r .slots))))), refused 14 (width ∷ widthAt (stateAt r (find k (r .slots))) ∷ []))
-    ∷ (overfull (totalsAt (stateAt r (find k (r .slots))) count), refused 17 [])
-    ∷ [])
+    ∷ slotChecks (stateAt r (find k (r .slots))) width count)
     (done (
       arrivalAt (stateAt r (find k (r .slots))) count,
       record
           { at = find k (r .slots); state = Heard k width (totalsAt (stateAt r (find k (r .slots))) count) },
     ))
+
+-- the same for whoever has the slot: 10, 14, 17, and the slot after it
+unfoldable pub slotJudging : Slot → Channel → ℕ → ℕ → Outcome (Arrival × Slot)
+slotJudging x k width count =
+    firstOf
+    ((ltb 7 width, refused 10 []) ∷ slotChecks (x .state) width count)
+    (done (arrivalAt (x .state) count, slotOf (Heard k width (totalsAt (x .state) count))))
 
 -- a judgement taken over: done, the record has the change; refused, it stays
 abbrev pub taken : {A : Type 0} → ChannelRecord → Outcome (A × Change) → Kept A

@@ -6,6 +6,8 @@ use crate::ChannelRecord;
 use crate::CountAnswer;
 use crate::MOST;
 use crate::SLOTS;
+use crate::Slot;
+use crate::SlotAnswer;
 use crate::SlotState;
 use crate::Totals;
 use crate::search;
@@ -14,7 +16,7 @@ use uslp_kinds::Refusal;
 ghost use mathlib.Core.Path.{_≡_};
 ghost use Prim.Native.Nat.{_+_, _≤_, _<_, _^_};
 ghost use mathlib.Core.Bool.{false};
-ghost use Rattle.uslp_record.specs.Judging.{paperCount, ahead, arrivalOf, totalsAfter, firstTotals, overfull, arrivalAt, totalsAt, widthAt, judging};
+ghost use Rattle.uslp_record.specs.Judging.{paperCount, paperSlot, ahead, arrivalOf, totalsAfter, firstTotals, overfull, arrivalAt, totalsAt, widthAt, judging, slotJudging};
 
 impl ChannelRecord {
     // What a frame of this channel, width and count is, and what it changes; the record is only read.
@@ -31,17 +33,39 @@ impl ChannelRecord {
         }
         let slots = self.slots;
         let slot = slots[at];
-        let state = slot.state;
+        match slot.judge_count(channel, width, count) {
+            SlotAnswer::Done { arrival, next } => {
+                let state = next.state;
+                CountAnswer::Done {
+                    arrival,
+                    change: Change { at, state },
+                }
+            }
+            SlotAnswer::Refused(refusal) => CountAnswer::Refused(refusal),
+        }
+    }
+}
+
+impl Slot {
+    // The same for whoever holds the slot that the search found: a caller who replaces it copies no record.
+    // Refuses BAD_FIELD, OTHER_WIDTH, TOTAL_FULL.
+    pub fn judge_count(self, channel: Channel, width: u8, count: u64) -> SlotAnswer
+        ensures { λ r. ⌜ paperSlot r ≡ slotJudging self channel width count ⌝ }
+    {
+        if width > MAX_COUNT_LEN {
+            return SlotAnswer::Refused(Refusal::BadField);
+        }
+        let state = self.state;
         let opened = width_of(state);
         if width != opened {
-            return CountAnswer::Refused(Refusal::OtherWidth {
+            return SlotAnswer::Refused(Refusal::OtherWidth {
                 frame: width,
                 opened,
             });
         }
         let step = step_of(state, count);
         if step.full {
-            return CountAnswer::Refused(Refusal::TotalFull);
+            return SlotAnswer::Refused(Refusal::TotalFull);
         }
         let arrival = step.arrival;
         let totals = step.totals;
@@ -50,9 +74,9 @@ impl ChannelRecord {
             width,
             totals,
         };
-        CountAnswer::Done {
+        SlotAnswer::Done {
             arrival,
-            change: Change { at, state: heard },
+            next: Slot { state: heard },
         }
     }
 }

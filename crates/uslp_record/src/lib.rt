@@ -88,6 +88,12 @@ pub enum CountAnswer {
     Refused(Refusal),
 }
 
+// What a frame's count is to the slot that holds its channel, and the slot after it.
+pub enum SlotAnswer {
+    Done { arrival: Arrival, next: Slot },
+    Refused(Refusal),
+}
+
 impl ChannelRecord {
     // All slots closed.
     pub fn new() -> ChannelRecord

@@ -11,8 +11,8 @@ use lib.ListN.{take, drop}
 use Rattle.uslp_octets.specs.Octets.{AreOctets}
 use Rattle.uslp_checksum.specs.Checksum.{checksumOf}
 use Rattle.uslp_checksum.proofs.Laws.{residue}
-use Rattle.uslp_kinds.specs.Outcome.{Outcome, refused}
-use Rattle.uslp_kinds.proofs.Outcomes.{later, last}
+use Rattle.uslp_kinds.specs.Outcome.{refused}
+use Rattle.uslp_kinds.proofs.Outcomes.{number-one, later, last}
 use Rattle.uslp_primary_header.specs.Header.{lenHeader, lenFrame}
 use Rattle.uslp_primary_header.proofs.RoundTrip as header-trip
 use Rattle.uslp_data_field_header.proofs.Reading as field-reading
@@ -21,10 +21,6 @@ use Rattle.uslp_reader.specs.Reader.{storedFecf, computedFecf, frameReading}
 use Rattle.uslp_reader.proofs.Paths.{Way, way, reading-header, reading-short, reading-field, reading-body, reading-checksum}
 use Rattle.uslp_reader.proofs.Paths.Way.{at-header, too-few, at-field, to-body}
 use Rattle.uslp_roundtrip.specs.Laid.{WrongFecf}
-
--- a refusal's number
-number-one : {A : Type 0} {j k : ℕ} {us vs : List ℕ} → _≡_ {A = Outcome A} (refused j us) (refused k vs) → j ≡ k
-number-one e = cc
 
 -- a checksum that was asked for and failed is not 0
 asked : (fecf : Bool) (n : ℕ) → fecf && not (eqb n 0) ≡ true → fecf ≡ true

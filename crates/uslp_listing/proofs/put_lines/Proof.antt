@@ -9,9 +9,10 @@ use Rattle.uslp_kinds.specs.Outcome.{done}
 use Rattle.uslp_reader.specs.Reader.{paperFrame, frameReading}
 use Rattle.uslp_reader.specs.declared.FrameAnswer.{FrameAnswer}
 use Rattle.uslp_reader.proofs.Parts.{rest-part}
+use Rattle.uslp_reader.proofs.EndToEnd.{frame-eight}
 use Rattle.uslp_text.proofs.Telling.{told-as, told-long}
 use Rattle.uslp_listing.specs.Listing.{summary}
-use Rattle.uslp_listing.proofs.Passing.{Passed, passed-none, frame-eight, passed-more, passed-refused, passed-all}
+use Rattle.uslp_listing.proofs.Passing.{Passed, passed-none, passed-more, passed-refused, passed-all}
 use borrow.Author.Needs.{needs}
 use Rattle.uslp_listing.proofs.put_lines.Statement.{statement}
 use Rattle.uslp_listing.proofs.put_lines.Tie as tie
@@ -71,7 +72,7 @@ add-frames : tie.Need-add-frames Inv-loop μ-loop
 add-frames c = let i = loopOf (readOf (frameOf c)) .loop .inv in omega (arith, i .few, i .inside)
 
 loop-less : tie.Need-loop-less Inv-loop μ-loop
-loop-less c = omega (arith, loop-again c .inside, c .len-frame .ensures, frame-eight _ (reading (frameOf c)))
+loop-less c = omega (arith, loop-again c .inside, c .len-frame .ensures, frame-eight _ false (reading (frameOf c)))
 
 returns : tie.Need-returns Inv-loop μ-loop
 returns c =

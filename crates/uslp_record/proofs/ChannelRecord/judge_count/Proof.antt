@@ -1,7 +1,9 @@
--- Each way through judging is a law of `Hears`.
-use mathlib.Core.Path.{sym}
+-- The channel is looked for, and its slot judged.
+use mathlib.Core.Path.{_≡_, sym, ap, _∙_}
 use native.Mathlib.Omega.{arith}
-use Rattle.uslp_record.proofs.Hears.{judging-wide, judging-none, judging-width, judging-full, judging-done}
+use Rattle.uslp_record.specs.Judging.{paperSlot, judging}
+use Rattle.uslp_record.specs.declared.SlotAnswer.{SlotAnswer}
+use Rattle.uslp_record.proofs.Hears.{judging-wide, judging-none, judging-slot, changing}
 use borrow.Author.Needs.{needs}
 use Rattle.uslp_record.proofs.ChannelRecord.judge_count.Statement.{statement}
 use Rattle.uslp_record.proofs.ChannelRecord.judge_count.Tie as tie
@@ -16,29 +18,28 @@ returns-2 c =
     let a = c .before .before .before .args in
     sym (judging-none (a .self) (a .channel) (a .width) (a .count) (omega arith) _ (c .before .search .ensures) (omega arith))
 
+-- the search, from behind the judging of the slot
+abbrev found : tie.After-judge-count → tie.After-search
+found k = k .before .before .before .before
+
+abbrev start : tie.After-search → tie.Start
+start f = f .before .before
+
+-- what the slot that was found is, as a change
+judged : (k : tie.After-judge-count) {r : SlotAnswer} → k .judge-count .result ≡ r
+    → changing (found k .search .result) (paperSlot r)
+    ≡ judging (start (found k) .args .self) (start (found k) .args .channel) (start (found k) .args .width) (start (found k) .args .count)
+judged k e =
+    let f = found k in
+    let a = start f .args in
+    ap (changing (f .search .result)) (sym (ap paperSlot e) ∙ k .judge-count .ensures)
+    ∙ sym (judging-slot (a .self) (a .channel) (a .width) (a .count) (omega arith) _ (f .search .ensures) (omega arith))
+
 returns-3 : tie.Need-returns-3
-returns-3 c =
-    let b = c .before .before .before .before .before in
-    let a = b .before .before .args in
-    sym (judging-width (a .self) (a .channel) (a .width) (a .count) (omega arith) _ (b .search .ensures) (omega arith) _
-    (c .before .width-of .ensures) (c .if3 .taken))
+returns-3 c = judged (c .before .before .before) (c .before .arrival .given .1)
 
 returns-4 : tie.Need-returns-4
-returns-4 c =
-    let e = c .before .before .before in
-    let b = e .before .before .before .before in
-    let a = b .before .before .args in
-    sym (judging-full (a .self) (a .channel) (a .width) (a .count) (omega arith) _ (b .search .ensures) (omega arith) _ (e .width-of .ensures)
-    (c .before .step-of .result) (c .before .before .if3 .left) (c .before .step-of .ensures) (c .if4 .taken))
-
-returns-5 : tie.Need-returns-5
-returns-5 c =
-    let t = c .before .before in
-    let e = t .before .before in
-    let b = e .before .before .before .before in
-    let a = b .before .before .args in
-    sym (judging-done (a .self) (a .channel) (a .width) (a .count) (omega arith) _ (b .search .ensures) (omega arith) _ (e .width-of .ensures)
-    (t .step-of .result) (t .before .if3 .left) (t .step-of .ensures) (c .before .if4 .left))
+returns-4 c = judged (c .before .before .before) (c .before .refusal .given .1)
 
 pub judge-count-spec : {M : Type 1} → statement M
 judge-count-spec =
@@ -50,7 +51,7 @@ judge-count-spec =
     (λ c. search needs)
     (λ c. search needs)
     (λ c κs. search needs)
+    (λ c. search needs)
+    (λ c. search needs)
     returns-3
-    (λ c κs. search needs)
-    returns-4
-    returns-5)
+    returns-4)

@@ -1,0 +1,211 @@
+-- The loop over the frames: what holds at a place, and how a frame, a refusal and the end carry it on.
+use mathlib.Core.Path.{_≡_, refl, ap, ap₂, sym, _∙_, subst}
+use Prim.Native.Nat.{ℕ, _+_, _-_, _^_, _<_, _≤_}
+use mathlib.Core.Bool.{Bool, true, false, cond}
+use mathlib.Core.List.{List, [], _∷_}
+use native.Mathlib.Omega.{arith}
+use lib.Dec.{eqb}
+use lib.ListN.{length, take, drop, getD, set, length-set, length-drop, drop-of-length-le}
+use lib.Seq.{drop-drop, set-getD}
+use Rattle.uslp_octets.specs.Octets.{AreOctets}
+use Rattle.uslp_octets.proofs.Laws.{are-drop}
+use Rattle.uslp_kinds.specs.Outcome.{Outcome, done, refused, andThen}
+use Rattle.uslp_primary_header.specs.Header.{lenFrame}
+use Rattle.uslp_reader.specs.Reader.{frameReading}
+use Rattle.uslp_reader.specs.EndToEnd.{Cut, cut, stopping}
+use Rattle.uslp_reader.specs.declared.TransferFrame.{TransferFrame}
+use Rattle.uslp_reader.proofs.Done.{read-done}
+use Rattle.uslp_reader.proofs.EndToEnd.{frame-eight, onto, nothing, cut-refused, cut-more, cut-end, stopping-refused}
+use Rattle.uslp_roundtrip.proofs.Exactly.{own-octets}
+use Rattle.uslp_record.specs.Slots.{find, slotOf, stateAt}
+use Rattle.uslp_record.specs.Record.{Kept, keeping, most}
+use Rattle.uslp_record.specs.Judging.{judging, slotJudging, taken}
+use Rattle.uslp_record.specs.declared.Channel.{Channel}
+use Rattle.uslp_record.specs.declared.Slot.{Slot}
+use Rattle.uslp_record.specs.declared.SlotState.the-variants.{Closed}
+use Rattle.uslp_record.specs.declared.ChannelRecord.{ChannelRecord}
+use Rattle.uslp_record.specs.declared.Arrival.{Arrival}
+use Rattle.uslp_record.specs.declared.Arrival.the-variants as arrival
+use Rattle.uslp_record.specs.declared.Change.{Change}
+use Rattle.uslp_record.proofs.Hears.{judging-none, judging-slot, changing}
+use Rattle.uslp_record.proofs.Sums.{upToIn, slots-most, slots-set, gapOf, slot-gap}
+use Rattle.uslp_hearing.specs.Hearing.{frameArrival, withFrame, judgedFrame, frameHearing}
+use Rattle.uslp_hearing.specs.declared.FrameArrival.{FrameArrival}
+use Rattle.uslp_hearing.specs.declared.FrameArrival.the-variants.{New, Repeat, Late}
+use Rattle.uslp_hearing.proofs.Ways.{channel, width, count, read-narrow}
+use Rattle.uslp_many.specs.Many.{tally, noFrames, tallyOf, plus, counting, hearings, KeptMany, manyHearing, Small}
+use Rattle.uslp_many.specs.declared.Tally.{Tally}
+use Rattle.uslp_many.proofs.Counts.{Counts}
+
+-- how many frames a tally has
+abbrev total : Tally → ℕ
+total t = t .new + t .repeats + t .late + t .«not_open» + t .«other_width» + t .«total_full»
+
+one-most : (b : Bool) → cond b 1 0 ≤ 1
+one-most true = omega arith
+one-most false = omega arith
+
+total-few : (o : Outcome FrameArrival) → total (tallyOf o) ≤ 3
+total-few (done (New gap x)) = omega arith
+total-few (done Repeat) = omega arith
+total-few (done Late) = omega arith
+total-few (refused k vs) = omega (arith, one-most (eqb k 13), one-most (eqb k 14), one-most (eqb k 17))
+
+gap-is : (x : TransferFrame) (a : Arrival) → tallyOf (done (frameArrival x a)) .missing ≡ gapOf a
+gap-is x (arrival.New gap) = refl
+gap-is x arrival.Repeat = refl
+gap-is x arrival.Late = refl
+
+-- a hearing of the octets s takes the tally t and the record r to u and q
+pub record Stepped (fecf : Bool) (s : List ℕ) (t : Tally) (r : ChannelRecord) (u : Tally) (q : ChannelRecord) : Type 0 where
+  pub is : _≡_ {A = Tally × ChannelRecord} (counting t (frameHearing r s fecf)) (u, q)
+  pub eight : length (q .slots) ≡ 8
+  pub few : total u ≤ total t + 3
+  pub sum : t .missing ≤ upToIn (r .slots) → u .missing ≤ upToIn (q .slots)
+
+module _ (fecf : Bool) (s : List ℕ) (x : TransferFrame) (read : frameReading s fecf ≡ done x) (t u : Tally) (r : ChannelRecord)
+    (long : length (r .slots) ≡ 8) (i : ℕ) (found : i ≡ find (channel x) (r .slots)) where
+  -- by what judging its count says
+  heard-by : {o : Outcome (Arrival × Change)} → judging r (channel x) (width x) (count x) ≡ o → counting t (frameHearing r s fecf) ≡ counting t (taken r (withFrame x o))
+  heard-by e =
+      ap (λ (v : Outcome TransferFrame). counting t (taken r (andThen v (judgedFrame r)))) read
+      ∙ ap (λ (v : Outcome (Arrival × Change)). counting t (taken r (withFrame x v))) e
+
+  -- no slot holds its channel
+  pub stepped-none : 8 ≤ i → u ≡ plus t (tallyOf (refused 13 [])) → Stepped fecf s t r u r
+  stepped-none out e = record {
+    is =
+        heard-by (judging-none r (channel x) (width x) (count x) (read-narrow s fecf x read) i found out)
+        ∙ ap (λ (v : Tally). (v, r)) (sym e);
+    eight = long;
+    few = omega (arith, ap total e);
+    sum = λ h. omega (arith, h, ap (λ (v : Tally). v .missing) e);
+  }
+
+  -- the slot y takes the place of the one that holds it
+  module _ (y : Slot) (there : i < 8) (c : Counts (slotJudging (getD (r .slots) i (slotOf Closed)) (channel x) (width x) (count x))
+      (getD (r .slots) i (slotOf Closed)) t y u) where
+    abbrev old : Slot
+    old = getD (r .slots) i (slotOf Closed)
+
+    abbrev replaced : ChannelRecord
+    replaced = record { slots = set (r .slots) i y }
+
+    by-slot : {o : Outcome (Arrival × Slot)} → slotJudging old (channel x) (width x) (count x) ≡ o
+        → counting t (frameHearing r s fecf) ≡ counting t (taken r (withFrame x (changing i o)))
+    by-slot e =
+        heard-by (judging-slot r (channel x) (width x) (count x) (read-narrow s fecf x read) i found there ∙ ap (changing i) e)
+
+    stepped-by : (o : Outcome (Arrival × Slot)) → slotJudging old (channel x) (width x) (count x) ≡ o → Stepped fecf s t r u replaced
+    stepped-by (done (a, z)) e =
+        let h = c .0 a z e in
+        let same : u ≡ plus t (tallyOf (done (frameArrival x a))) = h .1 x in
+        let gap = slot-gap old (channel x) (width x) (count x) e in
+        let more = slots-set (r .slots) i z (slotOf Closed) (omega (arith, long)) in
+        record {
+          is = by-slot e ∙ ap₂ (λ (v : Tally) (k : Slot). (v, record { slots = set (r .slots) i k })) (sym same) (sym (h .0));
+          eight = length-set (r .slots) i y ∙ long;
+          few = omega (arith, ap total same, total-few (done (frameArrival x a)));
+          sum = λ less.
+              let v : u .missing ≡ t .missing + gapOf a = ap (λ (v : Tally). v .missing) same ∙ ap (λ (n : ℕ). t .missing + n) (gap-is x a) in
+              let w : upToIn (set (r .slots) i y) ≡ upToIn (set (r .slots) i z) = ap (λ (k : Slot). upToIn (set (r .slots) i k)) (h .0) in
+              omega (arith, less, v, w, gap, more);
+        }
+    stepped-by (refused k vs) e =
+        let h = c .1 k vs e in
+        let kept : set (r .slots) i y ≡ r .slots = ap (set (r .slots) i) (h .0) ∙ set-getD (r .slots) i (slotOf Closed) in
+        record {
+          is = by-slot e ∙ ap₂ (λ (v : Tally) (l : List Slot). (v, record { slots = l })) (sym (h .1)) (sym kept);
+          eight = length-set (r .slots) i y ∙ long;
+          few = omega (arith, ap total (h .1), total-few (refused k vs));
+          sum = λ less. omega (arith, less, ap (λ (v : Tally). v .missing) (h .1), ap upToIn kept);
+        }
+
+    pub stepped-there : Stepped fecf s t r u replaced
+    stepped-there = stepped-by (slotJudging old (channel x) (width x) (count x)) refl
+
+hearings-next : (fecf : Bool) (f : TransferFrame × List ℕ) (fs : List (TransferFrame × List ℕ)) (t : Tally) (r : ChannelRecord)
+    → hearings fecf (f ∷ fs) t r ≡ hearings fecf fs (counting t (frameHearing r (f .1) fecf) .0) (counting t (frameHearing r (f .1) fecf) .1)
+unfolding hearings
+hearings-next fecf f fs t r = refl
+
+hearings-end : (fecf : Bool) (t : Tally) (r : ChannelRecord) → _≡_ {A = Tally × ChannelRecord} (hearings fecf [] t r) (t, r)
+unfolding hearings
+hearings-end fecf t r = refl
+
+-- the hearings from the place on complete the whole
+pub record Heard (fecf : Bool) (s : List ℕ) (r₀ r : ChannelRecord) (t : Tally) (place : ℕ) : Type 0 where
+  pub inside : place ≤ length s
+  pub eight : length (r .slots) ≡ 8
+  pub few : total t ≤ place
+  pub sum : t .missing ≤ upToIn (r .slots)
+  pub goes-on : hearings fecf (cut fecf (drop place s) .frames) t r ≡ hearings fecf (cut fecf s .frames) noFrames r₀
+  pub rest : cut fecf (drop place s) .rest ≡ cut fecf s .rest
+
+pub heard-nothing : (fecf : Bool) (s : List ℕ) (r : ChannelRecord) {t : Tally} → length (r .slots) ≡ 8 → t ≡ noFrames → Heard fecf s r r t 0
+heard-nothing fecf s r {t} long e = record {
+  inside = omega arith;
+  eight = long;
+  few = omega (arith, ap total e);
+  sum = omega (arith, ap (λ (v : Tally). v .missing) e);
+  goes-on = ap (λ (v : Tally). hearings fecf (cut fecf s .frames) v r) e;
+  rest = refl;
+}
+
+module _ {fecf : Bool} {s : List ℕ} {r₀ r : ChannelRecord} {t : Tally} {place : ℕ} (h : Heard fecf s r₀ r t place) where
+  pub heard-small : place + 1 < 2 ^ 64 → Small t
+  heard-small low =
+      let sum = slots-most (r .slots) in
+      record {
+        new = omega (arith, h .few);
+        missing = omega (arith, h .sum, sum, h .eight);
+        repeats = omega (arith, h .few);
+        late = omega (arith, h .few);
+        «not_open» = omega (arith, h .few);
+        «other_width» = omega (arith, h .few);
+        «total_full» = omega (arith, h .few);
+      }
+
+  pub heard-more : AreOctets s → (x : TransferFrame) → frameReading (drop place s) fecf ≡ done x → {n : ℕ} → n ≡ lenFrame (x .«primary_header»)
+      → {u : Tally} {q : ChannelRecord} → Stepped fecf (take (lenFrame (x .«primary_header»)) (drop place s)) t r u q → Heard fecf s r₀ q u (place + n)
+  heard-more oct x read {n} e {u} {q} step =
+      let long = lenFrame (x .«primary_header») in
+      let whole = read-done (drop place s) fecf x read .whole in
+      let left = length-drop place s in
+      let eight = frame-eight (drop place s) fecf read in
+      let c : cut fecf (drop place s) ≡ onto (drop place s) x (cut fecf (drop (place + n) s)) =
+      cut-more fecf (drop place s) x read
+      ∙ ap (λ (v : List ℕ). onto (drop place s) x (cut fecf v)) (drop-drop long place s ∙ ap (λ (m : ℕ). drop (place + m) s) (sym e)) in
+      record {
+        inside = omega (arith, h .inside);
+        eight = step .eight;
+        few = omega (arith, h .few, step .few);
+        sum = step .sum (h .sum);
+        goes-on =
+            ap (λ (p : Tally × ChannelRecord). hearings fecf (cut fecf (drop (place + n) s) .frames) (p .0) (p .1)) (sym (step .is))
+            ∙ sym (hearings-next fecf (x, take long (drop place s)) (cut fecf (drop (place + n) s) .frames) t r)
+            ∙ sym (ap (λ (v : Cut). hearings fecf (v .frames) t r) c) ∙ h .goes-on;
+        rest = sym (ap (λ (v : Cut). v .rest) c) ∙ h .rest;
+      }
+
+  -- nothing more is cut off: the whole is heard
+  ended : {o : Outcome (Unit {0})} → cut fecf (drop place s) ≡ nothing (drop place s) → o ≡ stopping fecf (drop place s)
+      → _≡_ {A = KeptMany} (record { stopped = place; counted = t; stop = o; next = r }) (manyHearing r₀ s fecf)
+  unfolding manyHearing
+  ended {o} c is =
+      let rest : drop place s ≡ cut fecf s .rest = sym (ap (λ (v : Cut). v .rest) c) ∙ h .rest in
+      let all : _≡_ {A = Tally × ChannelRecord} (t, r) (hearings fecf (cut fecf s .frames) noFrames r₀) =
+      sym (hearings-end fecf t r) ∙ sym (ap (λ (v : Cut). hearings fecf (v .frames) t r) c) ∙ h .goes-on in
+      let place-is : place ≡ length s - length (cut fecf s .rest) = omega (arith, h .inside, length-drop place s, ap length rest) in
+      let stop-is : o ≡ stopping fecf (cut fecf s .rest) = is ∙ ap (stopping fecf) rest in
+      λ i. record { stopped = place-is i; counted = all i .0; stop = stop-is i; next = all i .1 }
+
+  pub heard-refused : {k : ℕ} {vs : List ℕ} → place < length s → frameReading (drop place s) fecf ≡ refused k vs
+      → _≡_ {A = KeptMany} (record { stopped = place; counted = t; stop = refused k vs; next = r }) (manyHearing r₀ s fecf)
+  heard-refused low read =
+      ended (cut-refused fecf (drop place s) read) (sym (stopping-refused fecf (drop place s) (omega (arith, length-drop place s)) read))
+
+  pub heard-all : length s ≤ place → _≡_ {A = KeptMany} (record { stopped = place; counted = t; stop = done tt; next = r }) (manyHearing r₀ s fecf)
+  heard-all high =
+      let e = drop-of-length-le s {i = place} high in
+      ended (ap (cut fecf) e ∙ cut-end fecf ∙ ap nothing (sym e)) (ap (stopping fecf) (sym e))

@@ -1,0 +1,175 @@
+-- `hear_many` meets its contract. The loop's invariant: the hearings from the place on complete the whole.
+use mathlib.Core.Path.{_≡_, refl, ap, sym, _∙_, subst}
+use Prim.Native.Nat.{ℕ, _-_}
+use mathlib.Core.List.{List, []}
+use native.Mathlib.Omega.{arith}
+use mathlib.Core.Logic.{⊎-elim}
+use lib.ListN.{length, take, drop}
+use Rattle.uslp_octets.specs.Octets.{AreOctets}
+use Rattle.uslp_octets.proofs.Laws.{are-drop}
+use Rattle.uslp_kinds.specs.Outcome.{done}
+use Rattle.uslp_reader.specs.Reader.{paperFrame, frameReading}
+use Rattle.uslp_primary_header.specs.Header.{lenFrame}
+use Rattle.uslp_reader.specs.declared.TransferFrame.{TransferFrame}
+use Rattle.uslp_reader.specs.declared.FrameAnswer.{FrameAnswer}
+use Rattle.uslp_reader.proofs.Parts.{rest-part}
+use Rattle.uslp_reader.proofs.EndToEnd.{frame-eight}
+use Rattle.uslp_roundtrip.proofs.Exactly.{own-octets}
+use Rattle.uslp_record.specs.Slots.{find}
+use Rattle.uslp_record.specs.declared.Channel.{Channel}
+use Rattle.uslp_record.specs.declared.ChannelRecord.{ChannelRecord}
+use Rattle.uslp_record.proofs.Seek.{long-of}
+use Rattle.uslp_hearing.proofs.Ways.{channel}
+use Rattle.uslp_many.specs.Many.{Small}
+use Rattle.uslp_many.specs.declared.Tally.{Tally}
+use Rattle.uslp_many.proofs.Tallies.{added-13}
+use Rattle.uslp_many.proofs.Walk.{Stepped, stepped-none, stepped-there, Heard, heard-nothing, heard-small, heard-more, heard-refused, heard-all}
+use borrow.Author.Needs.{needs}
+use Rattle.uslp_many.proofs.hear_many.Statement.{statement}
+use Rattle.uslp_many.proofs.hear_many.Tie as tie
+
+abbrev Inv-loop : tie.InvT-loop
+Inv-loop buf has-fecf next₀ tally₀ place₀ next tally place = Heard has-fecf buf next₀ next tally place
+
+abbrev μ-loop : tie.MeasureT-loop
+μ-loop buf has-fecf next₀ tally₀ place₀ next tally place = length buf - place
+
+loop-holds : tie.Need-loop-holds Inv-loop μ-loop
+loop-holds c =
+    let s = c .before .before in
+    heard-nothing (s .args .has-fecf) (s .args .buf .now) (s .args .channels) (long-of (s .args .channels .slots) (s .good .0 .1 .1 .0 .1 .0 .1))
+    (c .no-frames .ensures)
+
+-- the loop, from behind the reading; and the function's entry
+abbrev loopOf : tie.After-from-bytes Inv-loop μ-loop → tie.At-loop Inv-loop μ-loop
+loopOf d = d .before .before .before
+
+abbrev startOf : tie.At-loop Inv-loop μ-loop → tie.Start Inv-loop μ-loop
+startOf l = l .before .before .before
+
+-- what is left to read
+abbrev rest : tie.After-from-bytes Inv-loop μ-loop → List ℕ
+rest d = drop (loopOf d .loop .place) (startOf (loopOf d) .args .buf .now)
+
+octets : (l : tie.At-loop Inv-loop μ-loop) → AreOctets (startOf l .args .buf .now)
+octets l i = l .before .before .shared-slice-known .given i .fits
+
+-- an answer to the reading at the place names what stands there
+answered : (d : tie.After-from-bytes Inv-loop μ-loop) {r : FrameAnswer} → d .from-bytes .result ≡ r
+    → frameReading (rest d) (startOf (loopOf d) .args .has-fecf) ≡ paperFrame r
+answered d e =
+    let place = loopOf d .loop .place in
+    let a = startOf (loopOf d) .args in
+    ap (λ (t : List ℕ). frameReading t (a .has-fecf)) (sym (rest-part (a .buf .now) place place refl))
+    ∙ sym (d .from-bytes .ensures) ∙ ap paperFrame e
+
+-- the frame, from behind the search; and its reading
+abbrev frameOf : tie.After-search Inv-loop μ-loop → tie.After-known-told Inv-loop μ-loop
+frameOf d = d .before .before .before
+
+abbrev readOf : tie.After-known-told Inv-loop μ-loop → tie.After-from-bytes Inv-loop μ-loop
+readOf d = d .before .before .before
+
+abbrev frame : tie.After-known-told Inv-loop μ-loop → TransferFrame
+frame d = d .before .frame .given .0 .0
+
+reading : (d : tie.After-known-told Inv-loop μ-loop) → frameReading (rest (readOf d)) (startOf (loopOf (readOf d)) .args .has-fecf) ≡ done (frame d)
+reading d = answered (readOf d) (d .before .frame .given .1)
+
+small : (d : tie.After-search Inv-loop μ-loop) → Small (loopOf (readOf (frameOf d)) .loop .tally)
+small d = let l = loopOf (readOf (frameOf d)) in heard-small (l .loop .inv) (omega (arith, startOf l .good, readOf (frameOf d) .before .before .loop-test .taken))
+
+count-in-requires : tie.Need-count-in-requires Inv-loop μ-loop
+count-in-requires c κs = small (c .before .before)
+
+add-tally : tie.Need-add-tally Inv-loop μ-loop
+add-tally c = record { fits = omega (arith, small (c .before .before) .«not_open») }
+
+-- the hearing of the frame's own octets takes tally and record to what they are where the ways meet
+abbrev Heard-there : tie.After-search Inv-loop μ-loop → Tally → ChannelRecord → Type 0
+Heard-there d u q =
+    let f = frameOf d in
+    let l = loopOf (readOf f) in
+    Stepped (startOf l .args .has-fecf) (take (lenFrame (frame f .«primary_header»)) (rest (readOf f))) (l .loop .tally) (l .loop .next) u q
+
+own : (d : tie.After-search Inv-loop μ-loop)
+    → frameReading (take (lenFrame (frame (frameOf d) .«primary_header»)) (rest (readOf (frameOf d)))) (startOf (loopOf (readOf (frameOf d))) .args .has-fecf)
+    ≡ done (frame (frameOf d))
+own d =
+    let f = frameOf d in
+    let l = loopOf (readOf f) in
+    own-octets (rest (readOf f)) (startOf l .args .has-fecf) (frame f) (are-drop (l .loop .place) (startOf l .args .buf .now) (octets l)) (reading f)
+
+found : (d : tie.After-search Inv-loop μ-loop) → d .search .result ≡ find (channel (frame (frameOf d))) (loopOf (readOf (frameOf d)) .loop .next .slots)
+found d =
+    d .search .ensures ∙ ap (λ (k : Channel). find k (loopOf (readOf (frameOf d)) .loop .next .slots)) (d .before .channel-of .ensures)
+
+stepped : (j : tie.Joined1 Inv-loop μ-loop) → Heard-there (j .before) (j .if1 .tally) (j .if1 .next)
+stepped j =
+    let d = j .before in
+    let f = frameOf d in
+    let l = loopOf (readOf f) in
+    let long = l .loop .inv .eight in
+    let fecf = startOf l .args .has-fecf in
+    let s = take (lenFrame (frame f .«primary_header»)) (rest (readOf f)) in
+    ⊎-elim
+    (λ w.
+    subst (λ (u : Tally). Heard-there d u (j .if1 .next)) (sym (w .6))
+    (subst (Heard-there d _) (sym (w .5))
+    (stepped-there fecf s (frame f) (own d) (l .loop .tally) _ (l .loop .next) long (d .search .result) (found d) _ (omega arith) (w .2 .ensures))))
+    (λ w.
+    subst (λ (u : Tally). Heard-there d u (j .if1 .next)) (sym (w .3))
+    (subst (Heard-there d _) (sym (w .2))
+    (stepped-none fecf s (frame f) (own d) (l .loop .tally) _ (l .loop .next) long (d .search .result) (found d) (omega arith) (added-13 (l .loop .tally) [] refl))))
+    (j .if1 .came)
+
+loop-again : tie.Need-loop-again Inv-loop μ-loop
+loop-again c =
+    let f = frameOf (c .before .before) in
+    let l = loopOf (readOf f) in
+    heard-more (l .loop .inv) (octets l) (frame f) (reading f) (c .len-frame .ensures) (stepped (c .before))
+
+add-place : tie.Need-add-place Inv-loop μ-loop
+add-place c = record { fits = omega (arith, loop-again c .inside, startOf (loopOf (readOf (frameOf (c .before .before)))) .good) }
+
+loop-less : tie.Need-loop-less Inv-loop μ-loop
+loop-less c =
+    let f = frameOf (c .before .before) in
+    omega (arith, loop-again c .inside, c .len-frame .ensures, frame-eight (rest (readOf f)) (startOf (loopOf (readOf f)) .args .has-fecf) (reading f))
+
+returns : tie.Need-returns Inv-loop μ-loop
+returns c =
+    let d = c .before .before .before in
+    heard-refused (loopOf d .loop .inv) (omega arith) (answered d (c .before .refusal .given .1))
+
+returns-2 : tie.Need-returns-2 Inv-loop μ-loop
+returns-2 c = let l = c .before in heard-all (l .loop .inv) (omega arith)
+
+pub hear-many-spec : {M : Type 1} → statement M
+hear-many-spec =
+    tie.close
+    (tie.spec
+    Inv-loop
+    μ-loop
+    (λ c κs. search needs)
+    loop-holds
+    (λ c. search needs)
+    (λ c. search needs)
+    (λ c. search needs)
+    (λ c κs. search needs)
+    (λ c. search needs)
+    (λ c κs. search needs)
+    (λ c κs. search needs)
+    (λ c. search needs)
+    (λ c. search needs)
+    count-in-requires
+    (λ c. search needs)
+    (λ c. search needs)
+    add-tally
+    (λ c κs. search needs)
+    add-place
+    loop-less
+    loop-again
+    (λ c. search needs)
+    returns
+    returns-2)

@@ -1,0 +1,174 @@
+// Hearing frames that stand end to end, in one call.
+use uslp_hearing::channel_of;
+use uslp_kinds::DoneAnswer;
+use uslp_primary_header::PrimaryHeader;
+use uslp_reader::FrameAnswer;
+use uslp_reader::TransferFrame;
+use uslp_record::Arrival;
+use uslp_record::ChannelRecord;
+use uslp_record::SLOTS;
+use uslp_record::Slot;
+use uslp_record::SlotAnswer;
+use uslp_record::search;
+ghost use mathlib.Core.Path.{_≡_};
+ghost use mathlib.Core.List.{List};
+ghost use Prim.Native.Nat.{ℕ, _≤_, _<_, _^_};
+ghost use Rattle.uslp_kinds.specs.Outcome.{done, refused};
+ghost use Rattle.uslp_reader.specs.declared.TransferFrame.{TransferFrame};
+ghost use Rattle.uslp_record.specs.Judging.{slotJudging};
+ghost use Rattle.uslp_record.specs.declared.Arrival.{Arrival};
+ghost use Rattle.uslp_record.specs.declared.Slot.{Slot};
+ghost use Rattle.uslp_hearing.specs.Hearing.{channelOf, frameArrival};
+ghost use Rattle.uslp_many.specs.Many.{paperMany, noFrames, plus, tallyOf, manyHearing, Small};
+
+// How many frames were NEW, the sum of their gaps, how many were REPEAT and LATE, and how many got 13, 14 and 17.
+pub struct Tally {
+    pub new: u64,
+    pub missing: u64,
+    pub repeats: u64,
+    pub late: u64,
+    pub not_open: u64,
+    pub other_width: u64,
+    pub total_full: u64,
+}
+
+// What the call comes to: the place reached, the tally of the frames before it, and the record after them. `stop` is DONE
+// where the octets are used up, else the reader's refusal of what is left.
+pub struct ManyHearing {
+    pub stopped: usize,
+    pub tally: Tally,
+    pub stop: DoneAnswer,
+    pub next: ChannelRecord,
+}
+
+// A slot after a frame of its channel, and the tally after it.
+struct Counted {
+    slot: Slot,
+    tally: Tally,
+}
+
+// Hears frames end to end, until the reader refuses what is left or nothing is. It cannot be refused.
+pub fn hear_many(channels: ChannelRecord, buf: &[u8], has_fecf: bool) -> ManyHearing
+    ensures { λ r. ⌜ paperMany r ≡ manyHearing channels (now (buf .entry)) «has_fecf» ⌝ }
+{
+    let mut next = channels;
+    let mut tally = no_frames();
+    let mut place: usize = 0;
+    while place < buf.len() {
+        match TransferFrame::from_bytes(&buf[place..], has_fecf) {
+            FrameAnswer::Done(frame) => {
+                let header = frame.primary_header;
+                let at = search(next, channel_of(header));
+                if at < SLOTS {
+                    // the slot alone is copied: a record handed over and back would be copied whole for each frame
+                    let counted = count_in(next.slots[at], header, tally);
+                    let slot = counted.slot;
+                    next.slots[at] = slot;
+                    tally = counted.tally;
+                } else {
+                    tally.not_open += 1;
+                }
+                place += frame.len_frame();
+            }
+            FrameAnswer::Refused(refusal) => {
+                return ManyHearing {
+                    stopped: place,
+                    tally,
+                    stop: DoneAnswer::Refused(refusal),
+                    next,
+                };
+            }
+        }
+    }
+    ManyHearing {
+        stopped: place,
+        tally,
+        stop: DoneAnswer::Done,
+        next,
+    }
+}
+
+fn no_frames() -> Tally
+    ensures { λ r. ⌜ r ≡ noFrames ⌝ }
+{
+    Tally {
+        new: 0,
+        missing: 0,
+        repeats: 0,
+        late: 0,
+        not_open: 0,
+        other_width: 0,
+        total_full: 0,
+    }
+}
+
+// A frame of the channel that the slot holds.
+fn count_in(slot: Slot, header: PrimaryHeader, tally: Tally) -> Counted
+    requires { ⌜ Small tally ⌝ }
+    ensures { λ r. ⌜
+        ((a : Arrival) (y : Slot)
+        → slotJudging slot (channelOf header) (header .«vc_frame_count_len») (header .«vc_frame_count») ≡ done (a, y)
+        → (r .slot ≡ y) × ((x : TransferFrame) → r .tally ≡ plus tally (tallyOf (done (frameArrival x a)))))
+        × ((k : ℕ) (vs : List ℕ)
+        → slotJudging slot (channelOf header) (header .«vc_frame_count_len») (header .«vc_frame_count») ≡ refused k vs
+        → (r .slot ≡ slot) × (r .tally ≡ plus tally (tallyOf (refused k vs))))
+        ⌝ }
+{
+    let channel = channel_of(header);
+    match slot.judge_count(channel, header.vc_frame_count_len, header.vc_frame_count) {
+        SlotAnswer::Done { arrival, next } => Counted {
+            slot: next,
+            tally: arrived(tally, arrival),
+        },
+        SlotAnswer::Refused(refusal) => Counted {
+            slot,
+            tally: passed(tally, refusal.number()),
+        },
+    }
+}
+
+// A frame that is counted for its channel.
+fn arrived(tally: Tally, arrival: Arrival) -> Tally
+    requires { ⌜ Small tally × ((gap : ℕ) → arrival ≡ Arrival.New gap → gap < 2 ^ 60) ⌝ }
+    ensures { λ r. ⌜ ((x : TransferFrame) → r ≡ plus tally (tallyOf (done (frameArrival x arrival)))) ⌝ }
+{
+    let mut next = tally;
+    match arrival {
+        Arrival::New(gap) => {
+            next.new += 1;
+            next.missing += gap;
+            next
+        }
+        Arrival::Repeat => {
+            next.repeats += 1;
+            next
+        }
+        Arrival::Late => {
+            next.late += 1;
+            next
+        }
+    }
+}
+
+// A frame that is refused by this number, and passed over.
+fn passed(tally: Tally, number: u8) -> Tally
+    requires { ⌜ Small tally ⌝ }
+    ensures { λ r. ⌜ ((vs : List ℕ) → r ≡ plus tally (tallyOf (refused number vs))) ⌝ }
+{
+    let mut next = tally;
+    match number {
+        13 => {
+            next.not_open += 1;
+            next
+        }
+        14 => {
+            next.other_width += 1;
+            next
+        }
+        17 => {
+            next.total_full += 1;
+            next
+        }
+        _ => next,
+    }
+}
