@@ -16,7 +16,7 @@ use Rattle.uslp_record.specs.declared.ChannelRecord.{ChannelRecord}
 use Rattle.uslp_record.specs.declared.Arrival.{Arrival}
 use Rattle.uslp_record.specs.declared.Arrival.the-variants.{New, Repeat, Late}
 use Rattle.uslp_record.specs.declared.Change.{Change}
-use Rattle.uslp_record.proofs.Hears.{judging-wide, judging-width}
+use Rattle.uslp_record.proofs.Hears.{judging-wide, judged-width}
 use Rattle.uslp_record.proofs.Slots.{true-false, same-one}
 use Rattle.uslp_reader.specs.Reader.{frameReading, contentsIn}
 use Rattle.uslp_reader.specs.declared.TransferFrame.{TransferFrame}
@@ -40,9 +40,7 @@ module _ (K : Channel) (r : ChannelRecord) (t : SlotState) (at : Stands K r t) w
       go : Dec (7 < w) → P (judging r K w n)
       go (yes h) = subst P (sym (judging-wide r K w n h)) (f 10 [] (omega arith))
       go (no h) =
-          let i = find K (r .slots) in
-          subst P (sym (judging-width r K w n (omega arith) i refl (at .there) (widthAt (stateAt r i)) refl (λ e. odd (e ∙ ap widthAt (at .state)))))
-          (f 14 (w ∷ widthAt (stateAt r i) ∷ []) (omega arith))
+          subst P (sym (judged-width r K w n (omega arith) (at .there) t (at .state) odd)) (f 14 (w ∷ widthAt t ∷ []) (omega arith))
 
   module _ (s : List ℕ) where
     -- a frame of another channel that was read

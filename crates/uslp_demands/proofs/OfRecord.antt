@@ -5,12 +5,12 @@ use Prim.Native.Nat.{ℕ, _^_}
 use native.Mathlib.Omega.{arith}
 use lib.ListN.{getD}
 use Rattle.uslp_kinds.proofs.Back.{back, one-to-one}
-use Rattle.uslp_kinds.proofs.Outcomes.{done-one}
+use Rattle.uslp_kinds.proofs.Outcomes.{not-done, done-one}
 use Rattle.uslp_kinds.specs.declared.DoneAnswer.the-variants as done-answer
 use Rattle.uslp_kinds.specs.declared.Refusal.the-variants.{NotOpen, TotalFull}
-use Rattle.uslp_record.specs.Slots.{find, vacant, slotOf, put, emptyRecord}
+use Rattle.uslp_record.specs.Slots.{find, vacant, slotOf, stateAt, put, emptyRecord}
 use Rattle.uslp_record.specs.Record.{Kept, keeping, paperTotal, paperState, opening, closing, showing, missingIn, tooMuchIn, consoleTotal}
-use Rattle.uslp_record.specs.Judging.{paperCount, judging}
+use Rattle.uslp_record.specs.Judging.{paperCount, paperSlot, judging, slotJudging}
 use Rattle.uslp_record.specs.declared.ChannelRecord.{ChannelRecord}
 use Rattle.uslp_record.specs.declared.SlotState.{SlotState}
 use Rattle.uslp_record.specs.declared.SlotState.the-variants.{Closed, Opened, Heard}
@@ -20,7 +20,9 @@ use Rattle.uslp_record.specs.declared.Arrival.the-variants.{New, Repeat, Late}
 use Rattle.uslp_record.specs.declared.Arrival.{Arrival}
 use Rattle.uslp_record.specs.declared.Change.{Change}
 use Rattle.uslp_record.specs.declared.CountAnswer.the-variants as count-answer
-use Rattle.uslp_record.proofs.Back.{total-back, state-back, count-back, keeping-one}
+use Rattle.uslp_record.specs.declared.Slot.{Slot}
+use Rattle.uslp_record.specs.declared.SlotAnswer.the-variants as slot-answer
+use Rattle.uslp_record.proofs.Back.{total-back, state-back, count-back, slot-back, keeping-one}
 use Rattle.uslp_record.proofs as channels
 use Rattle.uslp_demands.specs.Promise.{Function, function, Allows, Settles}
 use Rattle.uslp_demands.specs.Cases.{channel, lastHeard}
@@ -70,6 +72,11 @@ fn-judge-count =
     function channels.ChannelRecord.judge_count.Kinds.ps channels.ChannelRecord.judge_count.Kinds.r
     channels.ChannelRecord.judge_count.Reads.Pre channels.ChannelRecord.judge_count.Reads.Learnt
 
+abbrev fn-slot-judge-count : Function
+fn-slot-judge-count =
+    function channels.Slot.judge_count.Kinds.ps channels.Slot.judge_count.Kinds.r
+    channels.Slot.judge_count.Reads.Pre channels.Slot.judge_count.Reads.Learnt
+
 -- a channel open in the first slot, and not heard yet
 abbrev opened : ChannelRecord
 opened = put emptyRecord 0 (Opened channel 1)
@@ -85,7 +92,7 @@ handedIn (Opened k w) = 0
 handedIn (Heard k w t) = t .«handed_on»
 
 -- a slot that misses 2 ^ 60, which no call makes
-abbrev full : ChannelRecord
+abbrev pub full : ChannelRecord
 full = put emptyRecord 0 (Heard channel 1 (record { last = 0; «handed_on» = 1; missing = 2 ^ 60; repeats = 0; late = 0 }))
 
 pub new-settles : Settles fn-new
@@ -233,3 +240,24 @@ pub judge-count-repeat : (c : Change) → handedIn (c .state) ≡ 2
     → Allows fn-judge-count tt (lastHeard 1 0, (channel, (1, (0, tt)))) (count-answer.Done Repeat c, (tt, (tt, (tt, (tt, tt))))) → ⊥
 unfolding judging find
 judge-count-repeat c h e = let z : _≡_ {A = ℕ} 2 1 = sym h ∙ ap (λ (x : Arrival × Change). handedIn (x .1 .state)) (done-one e) in omega arith
+
+pub slot-judge-count-settles : Settles fn-slot-judge-count
+slot-judge-count-settles = record {
+  total = λ κs a. tt;
+  same = λ κs a x y s t.
+      alike
+      (one-to-one paperSlot (back (λ (z : Arrival × Slot). slot-answer.Done (z .0) (z .1)) slot-answer.Refused) slot-back
+      {x = x .0} {y = y .0} (s ∙ sym t))
+      refl;
+}
+
+-- a slot in which a frame of another width is counted; a REPEAT that empties it
+pub slot-judge-count-width : (x : Slot)
+    → Allows fn-slot-judge-count tt (slotOf (Opened channel 1), (channel, (2, (7, tt)))) (slot-answer.Done (New 0) x, (tt, (tt, (tt, (tt, tt))))) → ⊥
+unfolding slotJudging
+slot-judge-count-width x e = not-done (sym e)
+
+pub slot-judge-count-empties : Allows fn-slot-judge-count tt (slotOf (stateAt (lastHeard 1 0) 0), (channel, (1, (0, tt))))
+    (slot-answer.Done Repeat (slotOf (Opened channel 1)), (tt, (tt, (tt, (tt, tt))))) → ⊥
+unfolding slotJudging
+slot-judge-count-empties e = let z : _≡_ {A = ℕ} 0 1 = ap (λ (x : Arrival × Slot). handedIn (x .1 .state)) (done-one e) in omega arith

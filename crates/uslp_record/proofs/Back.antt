@@ -3,7 +3,7 @@ use mathlib.Core.Path.{_≡_, refl, ap}
 use Rattle.uslp_kinds.specs.Outcome.{Outcome}
 use Rattle.uslp_kinds.proofs.Back.{back, refusal-back}
 use Rattle.uslp_record.specs.Record.{keeping, paperTotal, paperState}
-use Rattle.uslp_record.specs.Judging.{paperCount}
+use Rattle.uslp_record.specs.Judging.{paperCount, paperSlot}
 use Rattle.uslp_record.specs.declared.ChannelRecord.{ChannelRecord}
 use Rattle.uslp_record.specs.declared.Arrival.{Arrival}
 use Rattle.uslp_record.specs.declared.Change.{Change}
@@ -13,6 +13,9 @@ use Rattle.uslp_record.specs.declared.TotalAnswer.{TotalAnswer}
 use Rattle.uslp_record.specs.declared.TotalAnswer.the-variants as total-answer
 use Rattle.uslp_record.specs.declared.CountAnswer.{CountAnswer}
 use Rattle.uslp_record.specs.declared.CountAnswer.the-variants as count-answer
+use Rattle.uslp_record.specs.declared.Slot.{Slot}
+use Rattle.uslp_record.specs.declared.SlotAnswer.{SlotAnswer}
+use Rattle.uslp_record.specs.declared.SlotAnswer.the-variants as slot-answer
 
 pub total-back : (r : TotalAnswer) → back total-answer.Done total-answer.Refused (paperTotal r) ≡ r
 total-back (total-answer.Done n) = refl
@@ -25,6 +28,10 @@ state-back (state-answer.Refused r) = ap state-answer.Refused (refusal-back r)
 pub count-back : (r : CountAnswer) → back (λ (x : Arrival × Change). count-answer.Done (x .0) (x .1)) count-answer.Refused (paperCount r) ≡ r
 count-back (count-answer.Done a c) = refl
 count-back (count-answer.Refused r) = ap count-answer.Refused (refusal-back r)
+
+pub slot-back : (r : SlotAnswer) → back (λ (x : Arrival × Slot). slot-answer.Done (x .0) (x .1)) slot-answer.Refused (paperSlot r) ≡ r
+slot-back (slot-answer.Done a x) = refl
+slot-back (slot-answer.Refused r) = ap slot-answer.Refused (refusal-back r)
 
 pub keeping-one : {A : Type 0} {o p : Outcome A} {r q : ChannelRecord} → keeping o r ≡ keeping p q → (o ≡ p) × (r ≡ q)
 keeping-one e = (cc, cc)
