@@ -1,3 +1,6 @@
 pub mod Tallies
 pub mod Counts
 pub mod Walk
+pub mod Singly
+pub mod Stops
+pub mod Made

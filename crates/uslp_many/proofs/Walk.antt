@@ -7,8 +7,6 @@ use native.Mathlib.Omega.{arith}
 use lib.Dec.{eqb}
 use lib.ListN.{length, take, drop, getD, set, length-set, length-drop, drop-of-length-le}
 use lib.Seq.{drop-drop, set-getD}
-use Rattle.uslp_octets.specs.Octets.{AreOctets}
-use Rattle.uslp_octets.proofs.Laws.{are-drop}
 use Rattle.uslp_kinds.specs.Outcome.{Outcome, done, refused, andThen}
 use Rattle.uslp_primary_header.specs.Header.{lenFrame}
 use Rattle.uslp_reader.specs.Reader.{frameReading}
@@ -16,7 +14,6 @@ use Rattle.uslp_reader.specs.EndToEnd.{Cut, cut, stopping}
 use Rattle.uslp_reader.specs.declared.TransferFrame.{TransferFrame}
 use Rattle.uslp_reader.proofs.Done.{read-done}
 use Rattle.uslp_reader.proofs.EndToEnd.{frame-eight, onto, nothing, cut-refused, cut-more, cut-end, stopping-refused}
-use Rattle.uslp_roundtrip.proofs.Exactly.{own-octets}
 use Rattle.uslp_record.specs.Slots.{find, slotOf, stateAt}
 use Rattle.uslp_record.specs.Record.{Kept, keeping, most}
 use Rattle.uslp_record.specs.Judging.{judging, slotJudging, taken}
@@ -134,22 +131,70 @@ unfolding hearings
 hearings-end fecf t r = refl
 
 -- the hearings from the place on complete the whole
-pub record Heard (fecf : Bool) (s : List ℕ) (r₀ r : ChannelRecord) (t : Tally) (place : ℕ) : Type 0 where
+pub record Goes (fecf : Bool) (s : List ℕ) (r₀ r : ChannelRecord) (t : Tally) (place : ℕ) : Type 0 where
   pub inside : place ≤ length s
-  pub eight : length (r .slots) ≡ 8
-  pub few : total t ≤ place
-  pub sum : t .missing ≤ upToIn (r .slots)
   pub goes-on : hearings fecf (cut fecf (drop place s) .frames) t r ≡ hearings fecf (cut fecf s .frames) noFrames r₀
   pub rest : cut fecf (drop place s) .rest ≡ cut fecf s .rest
 
+pub goes-nothing : (fecf : Bool) (s : List ℕ) (r : ChannelRecord) → Goes fecf s r r noFrames 0
+goes-nothing fecf s r = record { inside = omega arith; goes-on = refl; rest = refl }
+
+module _ {fecf : Bool} {s : List ℕ} {r₀ r : ChannelRecord} {t : Tally} {place : ℕ} (g : Goes fecf s r₀ r t place) where
+  pub goes-more : (x : TransferFrame) → frameReading (drop place s) fecf ≡ done x → {n : ℕ} → n ≡ lenFrame (x .«primary_header»)
+      → {u : Tally} {q : ChannelRecord}
+      → _≡_ {A = Tally × ChannelRecord} (counting t (frameHearing r (take (lenFrame (x .«primary_header»)) (drop place s)) fecf)) (u, q)
+      → Goes fecf s r₀ q u (place + n)
+  goes-more x read {n} e {u} {q} step =
+      let long = lenFrame (x .«primary_header») in
+      let whole = read-done (drop place s) fecf x read .whole in
+      let left = length-drop place s in
+      let c : cut fecf (drop place s) ≡ onto (drop place s) x (cut fecf (drop (place + n) s)) =
+      cut-more fecf (drop place s) x read
+      ∙ ap (λ (v : List ℕ). onto (drop place s) x (cut fecf v)) (drop-drop long place s ∙ ap (λ (m : ℕ). drop (place + m) s) (sym e)) in
+      record {
+        inside = omega (arith, g .inside);
+        goes-on =
+            ap (λ (p : Tally × ChannelRecord). hearings fecf (cut fecf (drop (place + n) s) .frames) (p .0) (p .1)) (sym step)
+            ∙ sym (hearings-next fecf (x, take long (drop place s)) (cut fecf (drop (place + n) s) .frames) t r)
+            ∙ sym (ap (λ (v : Cut). hearings fecf (v .frames) t r) c) ∙ g .goes-on;
+        rest = sym (ap (λ (v : Cut). v .rest) c) ∙ g .rest;
+      }
+
+  -- nothing more is cut off: the whole is heard
+  ended : {o : Outcome (Unit {0})} → cut fecf (drop place s) ≡ nothing (drop place s) → o ≡ stopping fecf (drop place s)
+      → _≡_ {A = KeptMany} (record { stopped = place; counted = t; stop = o; next = r }) (manyHearing r₀ s fecf)
+  unfolding manyHearing
+  ended {o} c is =
+      let rest : drop place s ≡ cut fecf s .rest = sym (ap (λ (v : Cut). v .rest) c) ∙ g .rest in
+      let all : _≡_ {A = Tally × ChannelRecord} (t, r) (hearings fecf (cut fecf s .frames) noFrames r₀) =
+      sym (hearings-end fecf t r) ∙ sym (ap (λ (v : Cut). hearings fecf (v .frames) t r) c) ∙ g .goes-on in
+      let place-is : place ≡ length s - length (cut fecf s .rest) = omega (arith, g .inside, length-drop place s, ap length rest) in
+      let stop-is : o ≡ stopping fecf (cut fecf s .rest) = is ∙ ap (stopping fecf) rest in
+      λ i. record { stopped = place-is i; counted = all i .0; stop = stop-is i; next = all i .1 }
+
+  pub goes-refused : {k : ℕ} {vs : List ℕ} → place < length s → frameReading (drop place s) fecf ≡ refused k vs
+      → _≡_ {A = KeptMany} (record { stopped = place; counted = t; stop = refused k vs; next = r }) (manyHearing r₀ s fecf)
+  goes-refused low read =
+      ended (cut-refused fecf (drop place s) read) (sym (stopping-refused fecf (drop place s) (omega (arith, length-drop place s)) read))
+
+  pub goes-all : length s ≤ place → _≡_ {A = KeptMany} (record { stopped = place; counted = t; stop = done tt; next = r }) (manyHearing r₀ s fecf)
+  goes-all high =
+      let e = drop-of-length-le s {i = place} high in
+      ended (ap (cut fecf) e ∙ cut-end fecf ∙ ap nothing (sym e)) (ap (stopping fecf) (sym e))
+
+-- and the machine's numbers hold what was counted
+pub record Heard (fecf : Bool) (s : List ℕ) (r₀ r : ChannelRecord) (t : Tally) (place : ℕ) : Type 0 where
+  pub goes : Goes fecf s r₀ r t place
+  pub eight : length (r .slots) ≡ 8
+  pub few : total t ≤ place
+  pub sum : t .missing ≤ upToIn (r .slots)
+
 pub heard-nothing : (fecf : Bool) (s : List ℕ) (r : ChannelRecord) {t : Tally} → length (r .slots) ≡ 8 → t ≡ noFrames → Heard fecf s r r t 0
 heard-nothing fecf s r {t} long e = record {
-  inside = omega arith;
+  goes = subst (λ (v : Tally). Goes fecf s r r v 0) (sym e) (goes-nothing fecf s r);
   eight = long;
   few = omega (arith, ap total e);
   sum = omega (arith, ap (λ (v : Tally). v .missing) e);
-  goes-on = ap (λ (v : Tally). hearings fecf (cut fecf s .frames) v r) e;
-  rest = refl;
 }
 
 module _ {fecf : Bool} {s : List ℕ} {r₀ r : ChannelRecord} {t : Tally} {place : ℕ} (h : Heard fecf s r₀ r t place) where
@@ -166,46 +211,13 @@ module _ {fecf : Bool} {s : List ℕ} {r₀ r : ChannelRecord} {t : Tally} {plac
         «total_full» = omega (arith, h .few);
       }
 
-  pub heard-more : AreOctets s → (x : TransferFrame) → frameReading (drop place s) fecf ≡ done x → {n : ℕ} → n ≡ lenFrame (x .«primary_header»)
+  pub heard-more : (x : TransferFrame) → frameReading (drop place s) fecf ≡ done x → {n : ℕ} → n ≡ lenFrame (x .«primary_header»)
       → {u : Tally} {q : ChannelRecord} → Stepped fecf (take (lenFrame (x .«primary_header»)) (drop place s)) t r u q → Heard fecf s r₀ q u (place + n)
-  heard-more oct x read {n} e {u} {q} step =
-      let long = lenFrame (x .«primary_header») in
-      let whole = read-done (drop place s) fecf x read .whole in
-      let left = length-drop place s in
+  heard-more x read e step =
       let eight = frame-eight (drop place s) fecf read in
-      let c : cut fecf (drop place s) ≡ onto (drop place s) x (cut fecf (drop (place + n) s)) =
-      cut-more fecf (drop place s) x read
-      ∙ ap (λ (v : List ℕ). onto (drop place s) x (cut fecf v)) (drop-drop long place s ∙ ap (λ (m : ℕ). drop (place + m) s) (sym e)) in
       record {
-        inside = omega (arith, h .inside);
+        goes = goes-more (h .goes) x read e (step .is);
         eight = step .eight;
-        few = omega (arith, h .few, step .few);
+        few = omega (arith, e, h .few, step .few);
         sum = step .sum (h .sum);
-        goes-on =
-            ap (λ (p : Tally × ChannelRecord). hearings fecf (cut fecf (drop (place + n) s) .frames) (p .0) (p .1)) (sym (step .is))
-            ∙ sym (hearings-next fecf (x, take long (drop place s)) (cut fecf (drop (place + n) s) .frames) t r)
-            ∙ sym (ap (λ (v : Cut). hearings fecf (v .frames) t r) c) ∙ h .goes-on;
-        rest = sym (ap (λ (v : Cut). v .rest) c) ∙ h .rest;
       }
-
-  -- nothing more is cut off: the whole is heard
-  ended : {o : Outcome (Unit {0})} → cut fecf (drop place s) ≡ nothing (drop place s) → o ≡ stopping fecf (drop place s)
-      → _≡_ {A = KeptMany} (record { stopped = place; counted = t; stop = o; next = r }) (manyHearing r₀ s fecf)
-  unfolding manyHearing
-  ended {o} c is =
-      let rest : drop place s ≡ cut fecf s .rest = sym (ap (λ (v : Cut). v .rest) c) ∙ h .rest in
-      let all : _≡_ {A = Tally × ChannelRecord} (t, r) (hearings fecf (cut fecf s .frames) noFrames r₀) =
-      sym (hearings-end fecf t r) ∙ sym (ap (λ (v : Cut). hearings fecf (v .frames) t r) c) ∙ h .goes-on in
-      let place-is : place ≡ length s - length (cut fecf s .rest) = omega (arith, h .inside, length-drop place s, ap length rest) in
-      let stop-is : o ≡ stopping fecf (cut fecf s .rest) = is ∙ ap (stopping fecf) rest in
-      λ i. record { stopped = place-is i; counted = all i .0; stop = stop-is i; next = all i .1 }
-
-  pub heard-refused : {k : ℕ} {vs : List ℕ} → place < length s → frameReading (drop place s) fecf ≡ refused k vs
-      → _≡_ {A = KeptMany} (record { stopped = place; counted = t; stop = refused k vs; next = r }) (manyHearing r₀ s fecf)
-  heard-refused low read =
-      ended (cut-refused fecf (drop place s) read) (sym (stopping-refused fecf (drop place s) (omega (arith, length-drop place s)) read))
-
-  pub heard-all : length s ≤ place → _≡_ {A = KeptMany} (record { stopped = place; counted = t; stop = done tt; next = r }) (manyHearing r₀ s fecf)
-  heard-all high =
-      let e = drop-of-length-le s {i = place} high in
-      ended (ap (cut fecf) e ∙ cut-end fecf ∙ ap nothing (sym e)) (ap (stopping fecf) (sym e))

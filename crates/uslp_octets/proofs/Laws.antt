@@ -4,12 +4,13 @@ use Prim.Native.Nat.{ℕ, zero, suc, _+_, _*_, _/_, _%_, _^_, _-_, _<_, _≤_}
 use mathlib.Core.List.{List, [], _∷_, _++_, append-nil}
 use Prim.Native.String.{String}
 use native.Mathlib.Omega.{arith}
+use native.Mathlib.Decide.{decLt}
 use native.Mathlib.Numerals.{add-one}
 use native.Mathlib.Nat.{mul-suc, pow-suc, mul-add-div-right, div-div-eq-div-mul, suc-add, zero-add, mul-assoc, one-le-pow, div-eq-of-lt, mul-comm, add-comm, add-mul, add-zero, add-assoc, sub-zero, le-refl, div-one, pow-zero, mod-eq-of-lt, mod-lt, add-suc, add-mul-mod-self-right, pow-le-pow-right}
 use lib.Pow.{pow-add, pow-pos, mod-pow-add, high, low}
 use lib.Arith.{digits-lt}
 use lib.Dec.{lit<}
-use lib.ListN.{length, take, drop, getD, set, length-drop, List·getD-append}
+use lib.ListN.{length, take, drop, getD, set, length-take, length-drop, List·getD-append, List·getD-eq-default}
 use lib.Seq.{getD-append-add, getD-drop, getD-take, take-suc, append-snoc, set-at, length-take-le, take-length}
 use Rattle.uslp_octets.specs.Octets.{AreOctets, Field, bitsIn, valueOf, Fits, split, octets, pack, unpack, word}
 
@@ -181,7 +182,14 @@ module _ (fs : List Field) (k : ℕ) (whole : bitsIn fs ≡ 8 * k) where
   pack-unpack s oct h =
       rw (bits-split, value-split, power, eighth, mod-eq-of-lt (word-lt s 0 oct k)) (octets-word s 0 oct k (omega arith))
 
--- what is left of octets is octets
+-- a part of octets is octets
+pub are-take : (n : ℕ) (s : List ℕ) → AreOctets s → AreOctets (take n s)
+are-take n s oct i =
+    elim (decLt i n) [
+      | yes h ↦ subst (λ (x : ℕ). x < 256) (sym (getD-take n s i 0 h)) (oct i)
+      | no h ↦ subst (λ (x : ℕ). x < 256) (sym (List·getD-eq-default (take n s) 0 (omega (arith, length-take n s)))) (lit< tt)
+    ]
+
 pub are-drop : (n : ℕ) (s : List ℕ) → AreOctets s → AreOctets (drop n s)
 are-drop n s oct i = subst (λ (x : ℕ). x < 256) (sym (getD-drop n s i 0)) (oct (n + i))
 

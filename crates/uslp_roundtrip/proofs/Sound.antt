@@ -5,12 +5,11 @@ use mathlib.Core.List.{List, _++_, append-assoc}
 use Prim.Native.Nat.{ℕ, _+_, _-_, _^_, _<_, _≤_}
 use native.Mathlib.Nat.{mod-lt}
 use native.Mathlib.Omega.{arith}
-use native.Mathlib.Decide.{decLt}
-use lib.ListN.{length, take, drop, length-take, length-drop, List·getD-eq-default}
-use lib.Seq.{take-add, getD-take, length-take-le}
+use lib.ListN.{length, take, drop, length-drop}
+use lib.Seq.{take-add, length-take-le}
 use lib.Dec.{lit<}
 use Rattle.uslp_octets.specs.Octets.{AreOctets, octets, word}
-use Rattle.uslp_octets.proofs.Laws.{octets-word, word-lt, are-drop}
+use Rattle.uslp_octets.proofs.Laws.{octets-word, word-lt, are-take, are-drop}
 use Rattle.uslp_checksum.specs.Checksum.{checksumOf}
 use Rattle.uslp_checksum.proofs.Laws.{residue}
 use Rattle.uslp_kinds.specs.Outcome.{done}
@@ -27,14 +26,6 @@ use Rattle.uslp_reader.specs.declared.TransferFrame.{TransferFrame}
 use Rattle.uslp_reader.proofs.Done.{ReadDone, read-done}
 use Rattle.uslp_reader.proofs.Paths.{contents-there}
 use Rattle.uslp_roundtrip.specs.Laid.{frameOf, Laid}
-
--- the front of octets is octets
-are-take : (n : ℕ) (s : List ℕ) → AreOctets s → AreOctets (take n s)
-are-take n s oct i =
-    elim (decLt i n) [
-      | yes h ↦ subst (λ (x : ℕ). x < 256) (sym (getD-take n s i 0 h)) (oct i)
-      | no h ↦ subst (λ (x : ℕ). x < 256) (sym (List·getD-eq-default (take n s) 0 (omega (arith, length-take n s)))) (lit< tt)
-    ]
 
 present-ocf : (b : Bool) (i : ℕ) (s : List ℕ) → b ≡ present (ocfAt b i s)
 present-ocf true i s = refl

@@ -20,10 +20,10 @@ use Rattle.uslp_record.specs.declared.Channel.{Channel}
 use Rattle.uslp_record.specs.declared.ChannelRecord.{ChannelRecord}
 use Rattle.uslp_record.proofs.Seek.{long-of}
 use Rattle.uslp_hearing.proofs.Ways.{channel}
-use Rattle.uslp_many.specs.Many.{Small}
+use Rattle.uslp_many.specs.Many.{tally, Small}
 use Rattle.uslp_many.specs.declared.Tally.{Tally}
-use Rattle.uslp_many.proofs.Tallies.{added-13}
-use Rattle.uslp_many.proofs.Walk.{Stepped, stepped-none, stepped-there, Heard, heard-nothing, heard-small, heard-more, heard-refused, heard-all}
+use Rattle.uslp_many.proofs.Tallies.{parts}
+use Rattle.uslp_many.proofs.Walk.{Stepped, stepped-none, stepped-there, goes-refused, goes-all, Heard, heard-nothing, heard-small, heard-more}
 use borrow.Author.Needs.{needs}
 use Rattle.uslp_many.proofs.hear_many.Statement.{statement}
 use Rattle.uslp_many.proofs.hear_many.Tie as tie
@@ -120,30 +120,30 @@ stepped j =
     (λ w.
     subst (λ (u : Tally). Heard-there d u (j .if1 .next)) (sym (w .3))
     (subst (Heard-there d _) (sym (w .2))
-    (stepped-none fecf s (frame f) (own d) (l .loop .tally) _ (l .loop .next) long (d .search .result) (found d) (omega arith) (added-13 (l .loop .tally) [] refl))))
+    (stepped-none fecf s (frame f) (own d) (l .loop .tally) _ (l .loop .next) long (d .search .result) (found d) (omega arith) (parts (l .loop .tally) (tally 0 0 0 0 1 0 0) _ (omega arith) (omega arith) (omega arith) (omega arith) (omega arith) (omega arith) (omega arith)))))
     (j .if1 .came)
 
 loop-again : tie.Need-loop-again Inv-loop μ-loop
 loop-again c =
     let f = frameOf (c .before .before) in
     let l = loopOf (readOf f) in
-    heard-more (l .loop .inv) (octets l) (frame f) (reading f) (c .len-frame .ensures) (stepped (c .before))
+    heard-more (l .loop .inv) (frame f) (reading f) (c .len-frame .ensures) (stepped (c .before))
 
 add-place : tie.Need-add-place Inv-loop μ-loop
-add-place c = record { fits = omega (arith, loop-again c .inside, startOf (loopOf (readOf (frameOf (c .before .before)))) .good) }
+add-place c = record { fits = omega (arith, loop-again c .goes .inside, startOf (loopOf (readOf (frameOf (c .before .before)))) .good) }
 
 loop-less : tie.Need-loop-less Inv-loop μ-loop
 loop-less c =
     let f = frameOf (c .before .before) in
-    omega (arith, loop-again c .inside, c .len-frame .ensures, frame-eight (rest (readOf f)) (startOf (loopOf (readOf f)) .args .has-fecf) (reading f))
+    omega (arith, loop-again c .goes .inside, c .len-frame .ensures, frame-eight (rest (readOf f)) (startOf (loopOf (readOf f)) .args .has-fecf) (reading f))
 
 returns : tie.Need-returns Inv-loop μ-loop
 returns c =
     let d = c .before .before .before in
-    heard-refused (loopOf d .loop .inv) (omega arith) (answered d (c .before .refusal .given .1))
+    goes-refused (loopOf d .loop .inv .goes) (omega arith) (answered d (c .before .refusal .given .1))
 
 returns-2 : tie.Need-returns-2 Inv-loop μ-loop
-returns-2 c = let l = c .before in heard-all (l .loop .inv) (omega arith)
+returns-2 c = let l = c .before in goes-all (l .loop .inv .goes) (omega arith)
 
 pub hear-many-spec : {M : Type 1} → statement M
 hear-many-spec =
