@@ -1,5 +1,5 @@
 -- Every record that calls made, restorings among them: its console total, and that a saving of it comes back.
-use mathlib.Core.Path.{_≡_, sym, subst}
+use mathlib.Core.Path.{_≡_, refl, sym, subst}
 use mathlib.Core.Bool.{Bool}
 use mathlib.Core.List.{List, [], _∷_, _++_, map}
 use Prim.Native.Nat.{ℕ, _≤_}
@@ -18,15 +18,23 @@ use Rattle.uslp_form.specs.Saved.Restoring.{good, bad}
 use Rattle.uslp_form.proofs.Trips.{entriesOf, made-good}
 use Rattle.uslp_form.proofs.Rows.{sound-fits, restores-done}
 use Rattle.uslp_form.proofs.Claims.{saving-done, Back, restores-saved, comes-back}
+use Rattle.uslp_reader.specs.EndToEnd.{cut}
+use Rattle.uslp_reader.specs.declared.TransferFrame.{TransferFrame}
 use Rattle.uslp_hearing.specs.Hearing.{frameHearing}
+use Rattle.uslp_hearing.specs.declared.FrameArrival.{FrameArrival}
 use Rattle.uslp_hearing.proofs.Ways.{made-hearing}
-use Rattle.uslp_counting.specs.History.{recordOf, Handing, called, run, Sender, Event, Call, callOf}
-use Rattle.uslp_counting.specs.History.Call.{hears as hearing, opens as opening, closes as closing}
+use Rattle.uslp_many.specs.Many.{noFrames, tallyOf, plus, counting, hearings, manyHearing}
+use Rattle.uslp_many.specs.declared.Tally.{Tally}
+use Rattle.uslp_many.proofs.Made.{made-many}
+use Rattle.uslp_counting.specs.History.{recordOf, Handing, heardAll, called, run, Sender, Event, Call, callOf}
+use Rattle.uslp_counting.specs.History.Call.{hears as hearing, hears-many as many, opens as opening, closes as closing}
 use Rattle.uslp_counting.specs.Console.{missingOverOpen, Given, GivenAll}
 use Rattle.uslp_counting.specs.Restarts.{Wrote, Restart, Leads, Called}
 use Rattle.uslp_counting.specs.Restarts.Restart.{resumes, refuses}
 use Rattle.uslp_counting.specs.Restarts.Leads.{ends, next, restart}
-use Rattle.uslp_counting.specs.Restarts.Called.{new, opens, closes, hears, restores}
+use Rattle.uslp_counting.specs.Restarts.Called.{new, opens, closes, hears, hears-many, restores}
+use Rattle.uslp_counting.proofs.Singly.{Steps, steps-of}
+use Rattle.uslp_counting.proofs.Singly.Steps.{ends as steps-end, next as steps-next, restart as steps-restart}
 use Rattle.uslp_counting.proofs.Restarts.{wrote-form}
 use Rattle.uslp_counting.proofs.Console.{console-made}
 
@@ -40,6 +48,7 @@ made-called new = made-empty
 made-called (opens {r = r} k w craft c) = made-opening r (made-called c) k w craft
 made-called (closes {r = r} k c) = made-closing r (made-called c) k
 made-called (hears {r = r} s fecf oct c) = made-hearing r (made-called c) s fecf oct
+made-called (hears-many {r = r} s fecf oct c) = made-many fecf r (made-called c) s oct
 made-called (restores f s h c) = made-restoring (made-called c) h
 
 -- so its console total is the sum over the open channels of what each is missing
@@ -68,9 +77,25 @@ called-back {r} c f b room found =
       back = comes-back f r made found;
     }
 
+-- the record after a call of many frames is the one that the call leaves
+many-counted : (K : Channel) (fecf : Bool) (fs : List (TransferFrame × List ℕ)) (t : Tally) (r : ChannelRecord)
+    → hearings fecf fs t r .1 ≡ heardAll frameHearing K r fs fecf .1
+unfolding hearings heardAll
+many-counted K fecf [] t r = refl
+many-counted K fecf (f ∷ fs) t r = go (frameHearing r (f .1) fecf) (λ u q. many-counted K fecf fs u q)
+  where
+    go : (q : Kept FrameArrival) → ((u : Tally) (v : ChannelRecord) → hearings fecf fs u v .1 ≡ heardAll frameHearing K v fs fecf .1)
+        → hearings fecf fs (counting t q .0) (counting t q .1) .1 ≡ heardAll frameHearing K (recordOf q) fs fecf .1
+    go (keeping o v) ih = ih (plus t (tallyOf o)) v
+
+pub many-called : (K : Channel) (r : ChannelRecord) (s : List ℕ) (fecf : Bool) → manyHearing r s fecf .next ≡ called frameHearing K r (many s fecf) .1
+unfolding manyHearing
+many-called K r s fecf = many-counted K fecf (cut fecf s .frames) noFrames r
+
 -- a call leaves such a record
 called-call : (K : Channel) {r : ChannelRecord} (c : Call) → Given c → Called r → Called (called frameHearing K r c .1)
 called-call K (hearing s fecf) given c = hears s fecf given c
+called-call K {r} (many s fecf) given c = subst Called (many-called K r s fecf) (hears-many s fecf given c)
 called-call K (opening k w) given c = opens k w given c
 called-call K (closing k) given c = closes k c
 
@@ -107,16 +132,20 @@ module _ {K : Channel} {width : ℕ} {fecf : Bool} (S : Sender K width fecf) whe
   leads-restart : {r m q : ChannelRecord} {es : List (Event K width)} {hs : List Handing}
       → Leads frameHearing S r es hs m → Restart m q → Leads frameHearing S r es hs q
   leads-restart ends g = restart g ends
-  leads-restart (next e room l) g = next e room (leads-restart l g)
+  leads-restart (next ms c stand room l) g = next ms c stand room (leads-restart l g)
   leads-restart (restart h l) g = restart h (leads-restart l g)
 
   -- so what a run leads to from such a record is such a record
+  steps-called : {r q : ChannelRecord} {es : List (Event K width)} {hs : List Handing} → Called r → GivenAll (map (callOf S) es)
+      → Steps frameHearing S r es hs q → Called q
+  steps-called c given steps-end = c
+  steps-called c given (steps-next e room l) = steps-called (called-call K (callOf S e) (given .0) c) (given .1) l
+  steps-called c given (steps-restart (resumes f fit w h) l) = steps-called (called-restored h) given l
+  steps-called c given (steps-restart (refuses f s h) l) = steps-called (restores f s h c) given l
+
   pub leads-called : {r q : ChannelRecord} {es : List (Event K width)} {hs : List Handing} → Called r → GivenAll (map (callOf S) es)
       → Leads frameHearing S r es hs q → Called q
-  leads-called c given ends = c
-  leads-called c given (next e room l) = leads-called (called-call K (callOf S e) (given .0) c) (given .1) l
-  leads-called c given (restart (resumes f fit w h) l) = leads-called (called-restored h) given l
-  leads-called c given (restart (refuses f s h) l) = leads-called (restores f s h c) given l
+  leads-called c given l = steps-called c given (steps-of frameHearing S l)
 
   -- the octets s are restored where the record `found` is: done, and the run from r goes on
   pub record GoesOn (r : ChannelRecord) (es : List (Event K width)) (hs : List Handing) (f : Form) (found : ChannelRecord) (s : List ℕ) : Type 0 where

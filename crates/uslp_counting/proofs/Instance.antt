@@ -1,7 +1,7 @@
 -- Histories of the oven in width 1: the places 0 and q arrive, of 256 counts. What is asked of a history can be met, and the window is tight.
 use mathlib.Core.Path.{_≡_, refl, ap, _∙_}
 use mathlib.Core.Bool.{false}
-use mathlib.Core.List.{List, [], _∷_, map}
+use mathlib.Core.List.{List, [], _∷_, _++_, map}
 use Prim.Native.Nat.{ℕ, _-_, _<_, _≤_}
 use native.Mathlib.Omega.{arith}
 use borrow.Author.Tests.{lt-ltb}
@@ -10,6 +10,7 @@ use Rattle.uslp_kinds.specs.Outcome.{done}
 use Rattle.uslp_primary_header.specs.Header.{headerReading}
 use Rattle.uslp_data_field_header.specs.Field.{fieldReading}
 use Rattle.uslp_reader.specs.Reader.{frameReading}
+use Rattle.uslp_reader.specs.EndToEnd.{cutUpTo}
 use Rattle.uslp_record.specs.Slots.{find, vacant, put, emptyRecord}
 use Rattle.uslp_record.specs.Record.{keeping, opening}
 use Rattle.uslp_record.specs.Judging.{judging}
@@ -17,8 +18,12 @@ use Rattle.uslp_record.specs.declared.SlotState.the-variants.{Opened}
 use Rattle.uslp_record.specs.declared.ChannelRecord.{ChannelRecord}
 use Rattle.uslp_hearing.specs.Hearing.{frameHearing}
 use Rattle.uslp_counting.specs.Places.{furthest, aheadOf, leaders, Close, Window, lost}
-use Rattle.uslp_counting.specs.History.{run, handed, missingFor, Sender, Event, Call, callOf, handingAt, following, handings, places}
+use Rattle.uslp_counting.specs.History.{run, handed, singly, missingFor, Sender, frameAt, Event, Call, callOf, handingAt, following, handings, places}
+use Rattle.uslp_counting.specs.History.Call.{hears-many}
 use Rattle.uslp_counting.specs.History.Event.{arrives}
+use Rattle.uslp_many.specs.Many.{manyHearing}
+use Rattle.uslp_counting.proofs.Singly.{run-singly, handed-singly}
+use Rattle.uslp_counting.proofs.Called.{many-called}
 use Rattle.uslp_counting.proofs.Lost.{lost-more, lost-one}
 use Rattle.uslp_counting.proofs.Theorem.{counted}
 use Rattle.uslp_counting.proofs.Room.{unfilled}
@@ -59,9 +64,29 @@ pub one-missing : (handed frameHearing craft begun (calls 0 2) ≡ handingAt sen
 unfolding places leaders aheadOf handings following
 one-missing =
     let less = lost-two 2 (omega arith) in
-    let c = counted craft 1 false sender (omega arith) (omega arith) emptyRecord begun refl begins (two 0 2) (near 2 (omega arith))
+    let c = counted craft 1 false sender (omega arith) (omega arith) emptyRecord begun refl begins (two 0 2) (calls 0 2) refl (near 2 (omega arith))
     (unfilled sender (omega arith) (omega arith) emptyRecord begun refl begins (two 0 2) (near 2 (omega arith)) (omega arith) (omega arith)) in
     (c .0, c .1 ∙ less)
+
+-- both in one call
+abbrev pub frames : List ℕ
+frames = frameAt sender 0 ++ frameAt sender 2
+
+abbrev pub together : List Call
+together = hears-many frames false ∷ []
+
+stands : singly together ≡ calls 0 2
+unfolding oven cutUpTo frameReading headerReading fieldReading
+stands = refl
+
+pub one-missing-together : (handed frameHearing craft begun together ≡ handingAt sender 0 0 ∷ handingAt sender 1 2 ∷ [])
+    × (missingFor craft (manyHearing begun frames false .next) ≡ 1)
+unfolding run
+one-missing-together = (
+  handed-singly frameHearing craft together begun ∙ ap (handed frameHearing craft begun) stands ∙ one-missing .0,
+  ap (missingFor craft) (many-called craft begun frames false ∙ run-singly frameHearing craft together begun ∙ ap (run frameHearing craft begun) stands)
+      ∙ one-missing .1,
+)
 
 -- one place further ahead than the window: 129 after 0 is taken for LATE, and is not handed on
 pub too-far-ahead : handed frameHearing craft begun (calls 0 129) ≡ handings sender (leaders [] (places (two 0 129))) → ⊥

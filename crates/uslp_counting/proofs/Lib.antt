@@ -1,3 +1,4 @@
+pub mod Singly
 pub mod Ahead
 pub mod Lost
 pub mod Stands

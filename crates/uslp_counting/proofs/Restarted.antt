@@ -80,7 +80,9 @@ second-room x e k f = not-done (sym f)
 
 pub led : Leads frameHearing sender begun (two 0 2) (handingAt sender 0 0 ∷ handingAt sender 1 2 ∷ []) after
 unfolding oven frameReading headerReading fieldReading judging find sorted insert
-led = next (arrives 0 []) first-room (restart restarts (next (arrives 2 []) second-room ends))
+led =
+    next (arrives 0 [] ∷ []) (callOf sender (arrives 0 [])) refl first-room
+    (restart restarts (next (arrives 2 [] ∷ []) (callOf sender (arrives 2 [])) refl second-room ends))
 
 -- the one at place 1
 pub one-missing-over : missingFor craft after ≡ 1

@@ -17,7 +17,8 @@ use Rattle.uslp_counting.specs.Places.{furthest, aheadOf, leaders, Windo
 use Rattle.uslp_counting.specs.History.{Handing, called, Roomy, Unfilled, Sender, Event, callOf, placesOf, places}
 use Rattle.uslp_counting.specs.History.Event.{arrives, damaged, elsewhere, misfits, opened, closed, again}
 use Rattle.uslp_counting.specs.Restarts.{Leads}
-use Rattle.uslp_counting.specs.Restarts.Leads.{ends, next, restart}
+use Rattle.uslp_counting.proofs.Singly.{Steps, steps-of}
+use Rattle.uslp_counting.proofs.Singly.Steps.{ends, next, restart}
 use Rattle.uslp_counting.proofs.Stands.{Stands, stands-opened}
 use Rattle.uslp_counting.proofs.Restarts.{restart-keeps}
 use Rattle.uslp_counting.proofs.Others.{roomy-damaged, roomy-elsewhere, roomy-misfit}
@@ -90,7 +91,7 @@ module _ {K : Channel} {width : ℕ} {fecf : Bool} (S : Sender K width fecf) whe
         )
 
     -- the event that follows a run
-    next-roomy : {es : List (Event K width)} {hs : List Handing} {r q : ChannelRecord} → Leads frameHearing S r es hs q
+    next-roomy : {es : List (Event K width)} {hs : List Handing} {r q : ChannelRecord} → Steps frameHearing S r es hs q
         → (seen before : List ℕ) (t : SlotState) → Stands K r t → Counting S seen before t
         → (e : Event K width) → Window (256 ^ width / 2) seen (places (es ++ (e ∷ []))) → length (places (es ++ (e ∷ []))) + length seen ≤ most
         → lost (before ++ leaders seen (places (es ++ (e ∷ [])))) ≤ most → Roomy frameHearing K q (callOf S e)
@@ -112,7 +113,7 @@ module _ {K : Channel} {width : ℕ} {fecf : Bool} (S : Sender K width fecf) whe
         → (e : Event K width) → Window (256 ^ width / 2) [] (places (es ++ (e ∷ [])))
         → length (places (es ++ (e ∷ []))) < 2 ^ 60 → lost (leaders [] (places (es ++ (e ∷ [])))) < 2 ^ 60 → Roomy frameHearing K q (callOf S e)
     unfilled-over r₀ r q long begins l e near few less =
-        next-roomy l [] [] (Opened K width) (stands-opened K width r₀ r long begins) quiet e near (omega arith) (omega arith)
+        next-roomy (steps-of frameHearing S l) [] [] (Opened K width) (stands-opened K width r₀ r long begins) quiet e near (omega arith) (omega arith)
 
     pub unfilled : (r₀ r : ChannelRecord) → length (r₀ .slots) ≡ 8 → opening r₀ K width ≡ keeping (done tt) r
         → (es : List (Event K width)) → Window (256 ^ width / 2) [] (places es) → length (places es) < 2 ^ 60 → lost (leaders [] (places es)) < 2 ^ 60

@@ -1,4 +1,4 @@
--- The console counts what it lacks, over restarts too: what is handed on is what is ahead of all before it, and what is missing is what was lost.
+-- The console counts what it lacks, over restarts and calls of many frames too: what is handed on is what is ahead of all before it, and what is missing is what was lost.
 use mathlib.Core.Path.{_≡_, refl, sym, _∙_, ap, subst}
 use mathlib.Core.Bool.{Bool}
 use mathlib.Core.List.{List, [], _∷_, _++_, map, append-nil}
@@ -15,8 +15,10 @@ use Rattle.uslp_counting.specs.Places.{leaders, Window, lost}
 use Rattle.uslp_counting.specs.History.{Hearer, Handing, called, run, handed, Unfilled, missingFor, Sender, Event, callOf, following, handings, places}
 use Rattle.uslp_counting.specs.Demand.{Demand3}
 use Rattle.uslp_counting.specs.Restarts.{Leads, Demand3Over}
-use Rattle.uslp_counting.specs.Restarts.Leads.{ends, next, restart}
+use Rattle.uslp_counting.specs.Restarts.Leads.{ends as leads-end, next as leads-next}
 use Rattle.uslp_counting.proofs.Stands.{Stands, stands-opened}
+use Rattle.uslp_counting.proofs.Singly.{run-singly, handed-singly, unfilled-singly, Steps, steps-of, stands-alone}
+use Rattle.uslp_counting.proofs.Singly.Steps.{ends, next, restart}
 use Rattle.uslp_counting.proofs.Restarts.{restart-keeps}
 use Rattle.uslp_counting.proofs.Step.{Counting, quiet, counting-missing, handingsAfter}
 use Rattle.uslp_counting.proofs.Events.{seenWith, window-first, went}
@@ -40,7 +42,7 @@ module _ {K : Channel} {width : ℕ} {fecf : Bool} (S : Sender K width fecf) whe
   handings-none [] = refl
   handings-none (k ∷ ks) = refl
 
-  pub counts : 1 ≤ width → width ≤ 7 → {es : List (Event K width)} {hs : List Handing} {r q : ChannelRecord} → Leads frameHearing S r es hs q
+  pub counts : 1 ≤ width → width ≤ 7 → {es : List (Event K width)} {hs : List Handing} {r q : ChannelRecord} → Steps frameHearing S r es hs q
       → (seen before : List ℕ) (t : SlotState) → Stands K r t → Counting S seen before t → Window (256 ^ width / 2) seen (places es)
       → Counted es hs q seen before
   unfolding places leaders seenOver
@@ -65,20 +67,24 @@ module _ {K : Channel} {width : ℕ} {fecf : Bool} (S : Sender K width fecf) whe
 -- demand 3 over restarts holds of the hearing here
 pub counted-over : Demand3Over frameHearing
 counted-over K width fecf S lo hi r₀ r q long begins es hs l near =
-    let c = counts S lo hi l [] [] (Opened K width) (stands-opened K width r₀ r long begins) quiet near in
+    let c = counts S lo hi (steps-of frameHearing S l) [] [] (Opened K width) (stands-opened K width r₀ r long begins) quiet near in
     (c .hands, ap missingOf (c .stands .state) ∙ counting-missing S (c .counting))
 
 -- a history of events is a run without restarts
 pub leads-of : (H : Hearer) {K : Channel} {width : ℕ} {fecf : Bool} (S : Sender K width fecf) (es : List (Event K width)) (r : ChannelRecord)
     → Unfilled H K r (map (callOf S) es) → Leads H S r es (handed H K r (map (callOf S) es)) (run H K r (map (callOf S) es))
 unfolding handed run Unfilled
-leads-of H S [] r room = ends
-leads-of H {K} S (e ∷ es) r room = next e (room .0) (leads-of H S es (called H K r (callOf S e) .1) (room .1))
+leads-of H S [] r room = leads-end
+leads-of H {K} S (e ∷ es) r room = leads-next (e ∷ []) (callOf S e) (stands-alone H S e) (room .0) (leads-of H S es (called H K r (callOf S e) .1) (room .1))
 
 -- so any hearing that has demand 3 over restarts has it without them
 pub over : (H : Hearer) → Demand3Over H → Demand3 H
-over H demand K width fecf S lo hi r₀ r long begins es near room =
-    demand K width fecf S lo hi r₀ r _ long begins es _ (leads-of H S es r room) near
+over H demand K width fecf S lo hi r₀ r long begins es cs stand near room =
+    let l = leads-of H S es r (subst (Unfilled H K r) stand (unfilled-singly H K cs r room)) in
+    let d = demand K width fecf S lo hi r₀ r _ long begins es _ l near in (
+      handed-singly H K cs r ∙ ap (handed H K r) stand ∙ d .0,
+      ap (missingFor K) (run-singly H K cs r ∙ ap (run H K r) stand) ∙ d .1,
+    )
 
 -- demand 3 holds of the hearing here
 pub counted : Demand3 frameHearing

@@ -8,7 +8,7 @@ use Rattle.uslp_record.specs.declared.SlotState.the-variants.{Closed, Opened, H
 use Rattle.uslp_record.specs.declared.Slot.{Slot}
 use Rattle.uslp_record.specs.declared.ChannelRecord.{ChannelRecord}
 use Rattle.uslp_counting.specs.History.{missingFor, Call}
-use Rattle.uslp_counting.specs.History.Call.{hears, opens, closes}
+use Rattle.uslp_counting.specs.History.Call.{hears, hears-many, opens, closes}
 
 -- the channels that are open, slot by slot
 abbrev pub channelIn : SlotState → List Channel
@@ -31,6 +31,7 @@ missingOverOpen r = sumOver (λ (k : Channel). missingFor k r) (openIn (r .slots
 -- the bounds that the machine's own numbers keep in what is given to a call
 abbrev pub Given : Call → Type 0
 Given (hears s fecf) = AreOctets s
+Given (hears-many s fecf) = AreOctets s
 Given (opens k width) = k .«spacecraft_id» < 2 ^ 16
 Given (closes k) = Unit {0}
 

@@ -11,14 +11,14 @@ use Rattle.uslp_record.specs.Record.{keeping, opening}
 use Rattle.uslp_record.specs.declared.Channel.{Channel}
 use Rattle.uslp_record.specs.declared.ChannelRecord.{ChannelRecord}
 use Rattle.uslp_counting.specs.Places.{leaders, Window, lost}
-use Rattle.uslp_counting.specs.History.{Hearer, run, handed, Unfilled, missingFor, Sender, Event, callOf, handings, places}
+use Rattle.uslp_counting.specs.History.{Hearer, Call, run, handed, Unfilled, singly, missingFor, Sender, Event, callOf, handings, places}
 
--- The channel is opened; then come events in which each arrival is near those before it and no hearing of the channel's frames gets
--- TOTAL_FULL: the frames handed on are those ahead of all before them, and what is missing is what was lost between them.
+-- The channel is opened; then come calls, each of which stands for one event or more. Where each arrival is near those before it and no
+-- hearing of the channel's frames gets TOTAL_FULL, the frames handed on are those ahead of all before them, and what is missing is what was
+-- lost between them.
 abbrev pub Demand3 : Hearer → Type 0
 Demand3 H =
     (K : Channel) (width : ℕ) (fecf : Bool) (S : Sender K width fecf) → 1 ≤ width → width ≤ 7
     → (r₀ r : ChannelRecord) → length (r₀ .slots) ≡ 8 → opening r₀ K width ≡ keeping (done tt) r
-    → (es : List (Event K width)) → Window (256 ^ width / 2) [] (places es) → Unfilled H K r (map (callOf S) es)
-    → (handed H K r (map (callOf S) es) ≡ handings S (leaders [] (places es)))
-    × (missingFor K (run H K r (map (callOf S) es)) ≡ lost (leaders [] (places es)))
+    → (es : List (Event K width)) (cs : List Call) → singly cs ≡ map (callOf S) es → Window (256 ^ width / 2) [] (places es) → Unfilled H K r cs
+    → (handed H K r cs ≡ handings S (leaders [] (places es))) × (missingFor K (run H K r cs) ≡ lost (leaders [] (places es)))

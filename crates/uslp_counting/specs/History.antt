@@ -1,7 +1,7 @@
 -- Histories of calls as the console makes them, octets in; the sender of a channel; and what may happen while the channel is open.
 use mathlib.Core.Path.{_≡_}
 use mathlib.Core.Bool.{Bool, true, false, cond}
-use mathlib.Core.List.{List, [], _∷_, _++_}
+use mathlib.Core.List.{List, [], _∷_, _++_, map}
 use Prim.Native.Nat.{ℕ, suc, _+_, _-_, _^_, _%_, _<_}
 use Rattle.uslp_kinds.specs.Outcome.{Outcome, done, refused}
 use Rattle.uslp_kinds.specs.declared.OperationalControlField.{OperationalControlField}
@@ -9,6 +9,7 @@ use Rattle.uslp_primary_header.specs.declared.PrimaryHeader.{PrimaryHeader}
 use Rattle.uslp_data_field_header.specs.declared.TransferFrameDataFieldHeader.{TransferFrameDataFieldHeader}
 use Rattle.uslp_layout.specs.Layout.{layout, WellFormed}
 use Rattle.uslp_reader.specs.Reader.{frameReading, contentsIn}
+use Rattle.uslp_reader.specs.EndToEnd.{cut}
 use Rattle.uslp_reader.specs.declared.TransferFrame.{TransferFrame}
 use Rattle.uslp_record.specs.Slots.{sameChannel, find, stateAt}
 use Rattle.uslp_record.specs.Record.{Kept, keeping, opening, closing, missingOf}
@@ -23,9 +24,10 @@ use Rattle.uslp_hearing.specs.declared.FrameArrival.the-variants.{New, Repeat, 
 abbrev pub Hearer : Type 0
 Hearer = ChannelRecord → List ℕ → Bool → Kept FrameArrival
 
--- a call of the console
+-- a call of the console; one of its hearings has a frame at the front of the octets, one has frames end to end
 pub data Call : Type 0 where
   hears : List ℕ → Bool → Call
+  hears-many : List ℕ → Bool → Call
   opens : Channel → ℕ → Call
   closes : Channel → Call
 
@@ -47,16 +49,38 @@ handing K s (done Late) = []
 handing K s (refused k vs) = []
 
 module _ (H : Hearer) (K : Channel) where
-  -- what a call hands on for the channel K, and the record after it
+  -- what hearing octets hands on for the channel K, and the record after it
+  abbrev pub heard : ChannelRecord → List ℕ → Bool → List Handing × ChannelRecord
+  heard r s fecf = (handing K s (answerOf (H r s fecf)), recordOf (H r s fecf))
+
+  -- the same of frames that are heard one after the other
+  unfoldable pub heardAll : ChannelRecord → List (TransferFrame × List ℕ) → Bool → List Handing × ChannelRecord
+  heardAll r [] fecf = ([], r)
+  heardAll r (f ∷ fs) fecf =
+      let q = heard r (f .1) fecf in
+      let rest = heardAll (q .1) fs fecf in
+      (q .0 ++ rest .0, rest .1)
+
+  -- what a call hands on for the channel K, and the record after it; one of frames end to end stands for hearing each of them
   abbrev pub called : ChannelRecord → Call → List Handing × ChannelRecord
-  called r (hears s fecf) = (handing K s (answerOf (H r s fecf)), recordOf (H r s fecf))
+  called r (hears s fecf) = heard r s fecf
+  called r (hears-many s fecf) = heardAll r (cut fecf s .frames) fecf
   called r (opens k width) = ([], recordOf (opening r k width))
   called r (closes k) = ([], recordOf (closing r k))
 
-  -- a call does not get TOTAL_FULL for a frame of the channel K
-  abbrev pub Roomy : ChannelRecord → Call → Type 0
-  Roomy r (hears s fecf) =
+  -- a hearing does not get TOTAL_FULL for a frame of the channel K
+  abbrev pub NotFull : ChannelRecord → List ℕ → Bool → Type 0
+  NotFull r s fecf =
       (x : TransferFrame) → frameReading s fecf ≡ done x → sameChannel (channelOf (x .«primary_header»)) K ≡ true → answerOf (H r s fecf) ≡ refused 17 [] → ⊥
+
+  unfoldable pub NoneFull : ChannelRecord → List (TransferFrame × List ℕ) → Bool → Type 0
+  NoneFull r [] fecf = Unit {0}
+  NoneFull r (f ∷ fs) fecf = NotFull r (f .1) fecf × NoneFull (heard r (f .1) fecf .1) fs fecf
+
+  -- no hearing of a call gets it
+  abbrev pub Roomy : ChannelRecord → Call → Type 0
+  Roomy r (hears s fecf) = NotFull r s fecf
+  Roomy r (hears-many s fecf) = NoneFull r (cut fecf s .frames) fecf
   Roomy r (opens k width) = Unit {0}
   Roomy r (closes k) = Unit {0}
 
@@ -72,6 +96,17 @@ module _ (H : Hearer) (K : Channel) where
   unfoldable pub Unfilled : ChannelRecord → List Call → Type 0
   Unfilled r [] = Unit {0}
   Unfilled r (c ∷ cs) = Roomy r c × Unfilled (called r c .1) cs
+
+-- the calls of one frame at the most that a call stands for
+abbrev pub standsFor : Call → List Call
+standsFor (hears s fecf) = hears s fecf ∷ []
+standsFor (hears-many s fecf) = map (λ (f : TransferFrame × List ℕ). hears (f .1) fecf) (cut fecf s .frames)
+standsFor (opens k width) = opens k width ∷ []
+standsFor (closes k) = closes k ∷ []
+
+abbrev pub singly : List Call → List Call
+singly [] = []
+singly (c ∷ cs) = standsFor c ++ singly cs
 
 -- what the record has missing for the channel K
 abbrev pub missingFor : Channel → ChannelRecord → ℕ

@@ -2,7 +2,7 @@
 -- that calls made.
 use mathlib.Core.Path.{_≡_}
 use mathlib.Core.Bool.{Bool}
-use mathlib.Core.List.{List, [], _∷_, _++_}
+use mathlib.Core.List.{List, [], _++_, map}
 use Prim.Native.Nat.{ℕ, _^_, _/_, _<_, _≤_}
 use lib.ListN.{length, take}
 use Rattle.uslp_octets.specs.Octets.{AreOctets}
@@ -14,8 +14,9 @@ use Rattle.uslp_record.specs.declared.ChannelRecord.{ChannelRecord}
 use Rattle.uslp_form.specs.Form.{Form, Fitting}
 use Rattle.uslp_form.specs.Saved.{saving, Restoring}
 use Rattle.uslp_hearing.specs.Hearing.{frameHearing}
+use Rattle.uslp_many.specs.Many.{manyHearing}
 use Rattle.uslp_counting.specs.Places.{leaders, Window, lost}
-use Rattle.uslp_counting.specs.History.{Hearer, recordOf, Handing, called, Roomy, missingFor, Sender, Event, callOf, handings, places}
+use Rattle.uslp_counting.specs.History.{Hearer, Call, recordOf, Handing, called, Roomy, standsFor, missingFor, Sender, Event, callOf, handings, places}
 
 -- octets that saving r wrote, into whatever buffer
 pub record Wrote (f : Form) (r : ChannelRecord) (s : List ℕ) : Type 0 where
@@ -31,13 +32,13 @@ pub data Restart : ChannelRecord → ChannelRecord → Type 0 where
   resumes : {r found q : ChannelRecord} {s : List ℕ} (f : Form) → Fitting f r → Wrote f r s → Restoring f found s (keeping (done tt) q) → Restart r q
   refuses : {r q : ChannelRecord} {k : ℕ} {vs : List ℕ} (f : Form) (s : List ℕ) → Restoring f r s (keeping (refused k vs) q) → Restart r q
 
--- From the record r, the events es lead over restarts to the record q and hand hs on, and no hearing of the channel's frames gets
--- TOTAL_FULL. Any other restoring that is done is no step here: it ends the run, as a closing of the channel does.
+-- From the record r, calls that stand for the events es lead over restarts to the record q and hand hs on, and no hearing of the channel's
+-- frames gets TOTAL_FULL. Any other restoring that is done is no step here: it ends the run, as a closing of the channel does.
 module _ (H : Hearer) {K : Channel} {width : ℕ} {fecf : Bool} (S : Sender K width fecf) where
   pub data Leads : ChannelRecord → List (Event K width) → List Handing → ChannelRecord → Type 0 where
     ends : {r : ChannelRecord} → Leads r [] [] r
-    next : {r q : ChannelRecord} {es : List (Event K width)} {hs : List Handing} (e : Event K width) → Roomy H K r (callOf S e)
-        → Leads (called H K r (callOf S e) .1) es hs q → Leads r (e ∷ es) (called H K r (callOf S e) .0 ++ hs) q
+    next : {r q : ChannelRecord} {es : List (Event K width)} {hs : List Handing} (ms : List (Event K width)) (c : Call)
+        → standsFor c ≡ map (callOf S) ms → Roomy H K r c → Leads (called H K r c .1) es hs q → Leads r (ms ++ es) (called H K r c .0 ++ hs) q
     restart : {r m q : ChannelRecord} {es : List (Event K width)} {hs : List Handing} → Restart r m → Leads m es hs q → Leads r es hs q
 
 -- Demand 3 over restarts: `Demand3`, with such a run for its history.
@@ -54,4 +55,5 @@ pub data Called : ChannelRecord → Type 0 where
   opens : {r : ChannelRecord} (k : Channel) (width : ℕ) → k .«spacecraft_id» < 2 ^ 16 → Called r → Called (recordOf (opening r k width))
   closes : {r : ChannelRecord} (k : Channel) → Called r → Called (recordOf (closing r k))
   hears : {r : ChannelRecord} (s : List ℕ) (fecf : Bool) → AreOctets s → Called r → Called (recordOf (frameHearing r s fecf))
+  hears-many : {r : ChannelRecord} (s : List ℕ) (fecf : Bool) → AreOctets s → Called r → Called (manyHearing r s fecf .next)
   restores : {r : ChannelRecord} {q : Kept (Unit {0})} (f : Form) (s : List ℕ) → Restoring f r s q → Called r → Called (recordOf q)

@@ -11,6 +11,7 @@ pub mod OfReader
 pub mod OfTiming
 pub mod OfRecord
 pub mod OfHearing
+pub mod OfMany
 pub mod OfSaved
 pub mod OfLentHeader
 pub mod OfLentReader

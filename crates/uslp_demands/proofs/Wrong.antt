@@ -1,7 +1,7 @@
 -- Any program that keeps the promise of the reader, of the writer or of the hearing has demand 2 or 3, over restarts too, so the programs that
 -- those demands shut out (`uslp_roundtrip/proofs/Wrong.antt`, `uslp_counting/proofs/Wrong.antt`) keep none of them. And none reports a too-long
 -- total wrapped.
-use mathlib.Core.Path.{_≡_, refl, sym, _∙_, subst}
+use mathlib.Core.Path.{_≡_, refl, sym, _∙_, ap, subst}
 use mathlib.Core.Bool.{Bool, true}
 use mathlib.Core.Logic.{_↔_}
 use mathlib.Core.List.{List, [], _∷_}
@@ -20,6 +20,8 @@ use Rattle.uslp_writer.proofs.Paths.{writing-refused}
 use Rattle.uslp_reader.specs.Reader.{paperFrame}
 use Rattle.uslp_reader.specs.declared.TransferFrame.{TransferFrame}
 use Rattle.uslp_record.specs.Record.{keeping}
+use Rattle.uslp_record.specs.declared.Channel.{Channel}
+use Rattle.uslp_record.specs.declared.ChannelRecord.{ChannelRecord}
 use Rattle.uslp_hearing.specs.Hearing.{paperHear}
 use Rattle.uslp_roundtrip.specs.Samples.{plain}
 use Rattle.uslp_roundtrip.specs.Laid.{WrongFecf}
@@ -29,11 +31,17 @@ use Rattle.uslp_roundtrip.proofs.Demand.{reads, writes}
 use Rattle.uslp_counting.specs.History as histories
 use Rattle.uslp_counting.specs.Demand.{Demand3}
 use Rattle.uslp_counting.specs.Restarts.{Demand3Over}
+use Rattle.uslp_counting.specs.History.Call.{hears-many}
 use Rattle.uslp_counting.proofs.Theorem.{counted-over, over}
+use Rattle.uslp_counting.proofs.Called.{many-called}
+use Rattle.uslp_many.specs.Many.{noFrames, KeptMany, paperMany}
+use Rattle.uslp_many.specs.Singly.{Singly}
+use Rattle.uslp_many.proofs.Singly.{one-at-a-time}
 use Rattle.uslp_demands.specs.Promise.{at, Program, Keeps}
 use Rattle.uslp_demands.proofs.OfWriter.{fn-write-to-slice}
 use Rattle.uslp_demands.proofs.OfReader.{fn-from-bytes}
 use Rattle.uslp_demands.proofs.OfHearing.{fn-hear}
+use Rattle.uslp_demands.proofs.OfMany.{fn-hear-many}
 
 -- what a program does, as the demands see it
 abbrev pub readerOf : Program fn-from-bytes → frames.Reader
@@ -64,6 +72,19 @@ hearer-demand-over f k = subst Demand3Over (λ i r s fecf. sym (k ([], tt) (r, (
 
 pub hearer-demand : (f : Program fn-hear) → Keeps fn-hear f → Demand3 (hearerOf f)
 hearer-demand f k = over (hearerOf f) (hearer-demand-over f k)
+
+-- whatever keeps the promise of the call for many frames comes to what hearing them one at a time comes to, for every FECF choice
+pub many-single : (g : Program fn-hear-many) → Keeps fn-hear-many g → (r : ChannelRecord) (s : List ℕ) (fecf : Bool) → AreOctets s
+    → Singly fecf s 0 noFrames r (paperMany (g ([], tt) (r, (at s, (fecf, tt))) .0))
+many-single g k r s fecf oct = one-at-a-time fecf s oct r _ .1 (k ([], tt) (r, (at s, (fecf, tt))))
+
+-- and the record that it leaves is the one that the call has in a history: so it may stand in any run
+pub many-stands : (f : Program fn-hear) → Keeps fn-hear f → (g : Program fn-hear-many) → Keeps fn-hear-many g
+    → (K : Channel) (r : ChannelRecord) (s : List ℕ) (fecf : Bool)
+    → g ([], tt) (r, (at s, (fecf, tt))) .0 .next ≡ histories.called (hearerOf f) K r (hears-many s fecf) .1
+many-stands f k g l K r s fecf =
+    ap (λ (q : KeptMany). q .next) (l ([], tt) (r, (at s, (fecf, tt)))) ∙ many-called K r s fecf
+    ∙ ap (λ (H : histories.Hearer). histories.called H K r (hears-many s fecf) .1) (λ i r s fecf. sym (k ([], tt) (r, (at s, (fecf, tt)))) i)
 
 -- a too-long total reported by a wrapped field: whatever the data and the buffer, 65,529 octets of data get TOO_LONG
 plain-passes : (headerChecking (plain .«primary_header») ≡ done (plain .«primary_header»)) ×
