@@ -1,7 +1,7 @@
 #!/usr/bin/env python3
 """Tries demand 3 from outside: random senders, a link that loses, repeats, reorders and damages frames of several channels within
-the window, restarts of the console, and a count of its own, over the places sent, of what was never handed on. Every answer of the
-program is compared, and every octet that it saves.
+the window, frames heard one at a time or several end to end, restarts of the console, and a count of its own, over the places sent, of
+what was never handed on. Every answer of the program is compared, and every octet that it saves.
 
 Usage: histories.py PROGRAM [HISTORIES [FRAMES [SEED]]]     (PROGRAM is what runs uslp_run, as 'tools/run uslp_run'; default 100, 1000)
        histories.py --write DIR PROGRAM HISTORIES FRAMES SEED    writes the commands and the program's answers to DIR/stdin, DIR/stdout
@@ -47,7 +47,9 @@ class Sender:
         handed, self.first, self.furthest, self.repeats, self.late = state
         self.handed = set(handed)
 
-    def frame(self, rng, place):
+    def frame(self, rng, place, width=None):
+        """The frame at a place; in another width than its channel's it is counted nowhere."""
+        width = width or self.width
         if place not in self.data:
             rule = rng.randrange(8)
             ocf = bytes(rng.randrange(256) for _ in range(4)) if rng.randrange(4) == 0 else b""
@@ -55,11 +57,11 @@ class Sender:
         rule, protocol, ocf, data = self.data[place]
         craft, channel = self.key
         dest, map_id, bypass, command, spare = self.header
-        total = 7 + self.width + (3 if rule < 3 else 1) + len(data) + len(ocf) + 2 * self.fecf
+        total = 7 + width + (3 if rule < 3 else 1) + len(data) + len(ocf) + 2 * self.fecf
         octets = bytearray([0xC0 | craft >> 12, craft >> 4 & 255, (craft & 15) << 4 | dest << 3 | channel >> 3, (channel & 7) << 5 | map_id << 1])
         octets += (total - 1).to_bytes(2, "big")
-        octets.append(bypass << 7 | command << 6 | spare << 4 | (8 if ocf else 0) | self.width)
-        octets += ((self.start + place) % self.counts).to_bytes(self.width, "big")
+        octets.append(bypass << 7 | command << 6 | spare << 4 | (8 if ocf else 0) | width)
+        octets += ((self.start + place) % 256**width).to_bytes(width, "big")
         octets.append(rule << 5 | protocol)
         if rule < 3:
             octets += (place & 0xFFFF).to_bytes(2, "big")
@@ -164,7 +166,7 @@ def spoiled(rng, octets):
 
 
 def damaged(rng, sender, frame):
-    """Octets that the reader refuses: a burst within 16 bits where there is a FECF, else a cut or a spoiled first octet."""
+    """Octets that the reader refuses: a burst within 16 bits where there is a FECF, else a cut, or a spoiled version or truncated flag."""
     octets = bytearray(frame)
     if sender.fecf and len(octets) > 8 and rng.randrange(2):
         at = rng.randrange(8 * 7, 8 * len(octets) - 16)
@@ -175,8 +177,43 @@ def damaged(rng, sender, frame):
     elif rng.randrange(2):
         octets = octets[: rng.randrange(len(octets))]
     else:
-        octets[0] ^= rng.choice([0x10, 0x20, 0x40, 0x80])
+        at, mask = rng.choice([(0, 0x10), (0, 0x20), (0, 0x40), (0, 0x80), (3, 1)])
+        octets[at] ^= mask
     return bytes(octets)
+
+
+def refusal(octets, fecf):
+    """The reader's answer to octets that begin with a damaged frame; no damage makes a frame's length shorter."""
+    found = len(octets)
+    if found < 4:
+        return f"1 {found} 4"
+    if octets[3] & 1:
+        return "3"
+    if found < 7:
+        return f"1 {found} 7"
+    if octets[0] >> 4 != 12:
+        return f"4 {octets[0] >> 4}"
+    header, total = 7 + (octets[6] & 7), int.from_bytes(octets[4:6], "big") + 1
+    if found < header:
+        return f"1 {found} {header}"
+    if found < total:
+        return f"1 {found} {total}"
+    rule, protocol = octets[header] >> 5, octets[header] & 31
+    if 8 < protocol < 31:
+        return f"5 {protocol}"
+    needed = header + (3 if rule < 3 else 1) + (4 if octets[6] & 8 else 0) + 2 * fecf
+    if total < needed:
+        return f"7 {total} {needed}"
+    return f"6 {int.from_bytes(octets[total - 2 : total], 'big')} {checksum(octets[: total - 2])}"
+
+
+def add(tally, answer):
+    """Counts the answer to one frame: NEW, the sum of gaps, REPEAT, LATE, 13, 14, 17."""
+    words = answer.split()
+    kind = words[1] if words[0] == "0" else words[0]
+    tally[["NEW", None, "REPEAT", "LATE", "13", "14", "17"].index(kind)] += 1
+    if kind == "NEW":
+        tally[1] += int(words[2])
 
 
 def history(rng, frames):
@@ -190,8 +227,9 @@ def history(rng, frames):
         commands.append(command)
         answers.append(answer)
 
-    def ask(sender):
-        say(f"show {sender.key[0]} {sender.key[1]}", sender.shown() if sender.key in opened else "13")
+    def ask(*asked):
+        for sender in asked:
+            say(f"show {sender.key[0]} {sender.key[1]}", sender.shown() if sender.key in opened else "13")
         say("total", "0 %d" % sum(s.missing() for s in opened.values()))
 
     def restart():
@@ -218,10 +256,35 @@ def history(rng, frames):
             if not is_form(octets):
                 say(f"restore {octets.hex() or '-'}", "18")
 
+    def heard(sender, place):
+        return sender.arrives(place) if sender.key in opened else "13"
+
+    def several(fecf):
+        """Hears frames end to end, all with this FECF choice, the last perhaps damaged, with one behind it or none; says how many were sent."""
+        link = [s for s in senders.values() if s.fecf == fecf]
+        octets, rest, tally, sent = b"", b"", [0] * 7, rng.randrange(6)
+        for _ in range(sent):
+            sender = rng.choice(link)
+            place = sender.next_place(rng)
+            width = sender.width if rng.randrange(10) else rng.choice([w for w in range(1, 8) if w != sender.width])
+            octets += sender.frame(rng, place, width)
+            add(tally, "14" if width != sender.width and sender.key in opened else heard(sender, place))
+        if rng.randrange(2):
+            sender, behind = rng.choice(link), rng.choice(link)
+            frame = sender.frame(rng, sender.next_place(rng))
+            rest = damaged(rng, sender, frame)
+            if len(rest) == len(frame) and rng.randrange(2):
+                rest += behind.frame(rng, behind.next_place(rng))
+        stop = refusal(rest, fecf) if rest else "0"
+        say(f"many {fecf} {(octets + rest).hex() or '-'}", f"0 {len(octets)} {' '.join(map(str, tally))} {stop}")
+        ask(*link)
+        return sent + len(rest[:1])
+
     studied = next(iter(senders.values()))
     say(f"open {studied.key[0]} {studied.key[1]} {studied.width}", "0")
     opened[studied.key] = studied
-    for _ in range(frames):
+    sent = 0
+    while sent < frames:
         sender = studied if rng.randrange(3) else rng.choice(list(senders.values()))
         if sender is not studied and rng.randrange(12) == 0:
             if sender.key in opened:
@@ -233,16 +296,19 @@ def history(rng, frames):
                 opened[sender.key] = sender
         if rng.randrange(20) == 0:
             restart()
+        if rng.randrange(12) == 0:
+            sent += several(sender.fecf)
+            continue
         place = sender.next_place(rng)
         frame = sender.frame(rng, place)
         if rng.randrange(8) == 0:
-            say(f"hear {sender.fecf} {damaged(rng, sender, frame).hex() or '-'}", None)
-        elif sender.key in opened:
-            behind = b"" if rng.randrange(4) else bytes(rng.randrange(256) for _ in range(rng.randrange(9)))
-            say(f"hear {sender.fecf} {(frame + behind).hex()}", sender.arrives(place))
+            octets = damaged(rng, sender, frame)
+            say(f"hear {sender.fecf} {octets.hex() or '-'}", refusal(octets, sender.fecf))
         else:
-            say(f"hear {sender.fecf} {frame.hex()}", "13")
+            behind = b"" if rng.randrange(4) else bytes(rng.randrange(256) for _ in range(rng.randrange(9)))
+            say(f"hear {sender.fecf} {(frame + behind).hex()}", heard(sender, place))
         ask(sender)
+        sent += 1
     return commands, answers
 
 
@@ -251,23 +317,12 @@ def ask_program(program, commands):
     return subprocess.run(shlex.split(program), input=text, stdout=subprocess.PIPE, text=True, check=True).stdout.splitlines()
 
 
-def refused(command, found):
-    """Whether the reader refused the octets, with a number from 1 to 7; 6 with the FECF as stored and as this script sums it."""
-    if found.split()[0] != "6":
-        return found.split()[0] in "123457"
-    octets = bytes.fromhex(command.split()[2])
-    end = int.from_bytes(octets[4:6], "big") - 1
-    return found == f"6 {int.from_bytes(octets[end : end + 2], 'big')} {checksum(octets[:end])}"
-
-
 def compare(program, commands, answers):
-    """Each answer as expected; octets that were damaged are refused by the reader."""
     said = ask_program(program, commands)
     if len(said) != len(commands):
         return f"{len(commands)} commands, {len(said)} answers"
     for command, expected, found in zip(commands, answers, said):
-        fits = found == expected if expected is not None else refused(command, found)
-        if not fits:
+        if found != expected:
             return f"{command}\n  expected {expected}\n  found    {found}"
     return None
 
@@ -280,21 +335,22 @@ def main():
     if not words or words[0].startswith("-"):
         sys.exit(__doc__)
     program = words[0]
-    many, frames, seed = (int(w) for w in (words[1:] + ["100", "1000", "1"][len(words) - 1:]))
-    steps, all_commands = 0, []
-    for k in range(many):
+    number, frames, seed = (int(w) for w in (words[1:] + ["100", "1000", "1"][len(words) - 1:]))
+    steps, at_once, all_commands = 0, 0, []
+    for k in range(number):
         commands, answers = history(random.Random(seed * 1000003 + k), frames)
         wrong = compare(program, commands, answers)
         if wrong:
             sys.exit(f"history {k} of seed {seed}: {wrong}")
         steps += len(commands)
+        at_once += sum(c.startswith("many ") for c in commands)
         all_commands += commands + ["restore 0000"]
     if out:
         with open(out + "/stdin", "w") as f:
             f.write("".join(c + "\n" for c in all_commands))
         with open(out + "/stdout", "w") as f:
             f.write("".join(a + "\n" for a in ask_program(program, all_commands)))
-    print(f"{many} histories of {frames} frames, {steps} answers, all equal")
+    print(f"{number} histories of {frames} frames, {steps} answers, {at_once} of them to many, all equal")
 
 
 main()

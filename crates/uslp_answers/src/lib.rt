@@ -17,7 +17,7 @@ pub mod writing;
 // Octets that are said at once.
 const GROUP: usize = 8;
 
-pub(crate) fn say(text: &[u8]) {
+pub fn say(text: &[u8]) {
     io::write_all(STDOUT_FILENO, text);
 }
 
@@ -28,7 +28,7 @@ pub fn say_bad(name: &[u8]) {
 }
 
 // What the answer of a command that was done begins with.
-pub(crate) fn say_zero() {
+pub fn say_zero() {
     say(b"0");
 }
 
@@ -37,7 +37,7 @@ pub(crate) fn say_number(value: u64) {
 }
 
 // A space, and a number.
-pub(crate) fn say_field(value: u64) {
+pub fn say_field(value: u64) {
     say(b" ");
     say_number(value);
 }

@@ -25,6 +25,7 @@ use uslp_answers::values::HEX;
 use uslp_answers::values::Values;
 use uslp_answers::writing::fw;
 use uslp_answers::writing::hw;
+use uslp_many_answers::many;
 use uslp_record::ChannelRecord;
 
 // The rows of `command_in`.
@@ -56,7 +57,9 @@ const SAVE: usize = 12;
 
 const RESTORE: usize = 13;
 
-const NOTHING: usize = 14;
+const MANY: usize = 14;
+
+const NOTHING: usize = 15;
 
 // Answers the line that is held. One that is too long is no command, as an empty one.
 pub(crate) fn answer(line: &mut [u8], bench: Bench) -> Bench {
@@ -96,7 +99,8 @@ hear fecf hex
 show scid vc
 total
 save buflen
-restore hex";
+restore hex
+many fecf hex";
     called(rows, line, values)
 }
 
@@ -155,6 +159,7 @@ fn act_on_channels(
         TOTAL => total(channels),
         SAVE => save(values, channels),
         RESTORE => restore(data, channels),
+        MANY => many(data, values[FECF] == 1, channels),
         _ => channels,
     }
 }
