@@ -7,7 +7,7 @@ use native.Mathlib.Omega.{arith}
 use native.Mathlib.Decide.{decLt}
 use Rattle.uslp_kinds.specs.Outcome.{Outcome, done, refused, andThen}
 use Rattle.uslp_kinds.proofs.Outcomes.{not-done, done-one}
-use Rattle.uslp_record.specs.Slots.{sameChannel, find, stateAt}
+use Rattle.uslp_record.specs.Slots.{sameChannel}
 use Rattle.uslp_record.specs.Record.{Kept, keeping}
 use Rattle.uslp_record.specs.Judging.{widthAt, judging, taken}
 use Rattle.uslp_record.specs.declared.Channel.{Channel}

@@ -7,7 +7,7 @@ use Rattle.uslp_reader.specs.declared.TransferFrame.{TransferFrame}
 use Rattle.uslp_reader.specs.EndToEnd.{cut}
 use Rattle.uslp_record.specs.declared.Channel.{Channel}
 use Rattle.uslp_record.specs.declared.ChannelRecord.{ChannelRecord}
-use Rattle.uslp_counting.specs.History.{Hearer, Call, Handing, heard, heardAll, called, NotFull, NoneFull, Roomy, run, handed, Unfilled, standsFor, singly, Sender, Event, callOf}
+use Rattle.uslp_counting.specs.History.{Hearer, Call, Handing, heard, heardAll, called, NoneFull, Roomy, run, handed, Unfilled, standsFor, singly, Sender, Event, callOf}
 use Rattle.uslp_counting.specs.History.Call.{hears, hears-many, opens, closes}
 use Rattle.uslp_counting.specs.History.Event.{arrives, damaged, elsewhere, misfits, opened, closed, again}
 use Rattle.uslp_counting.specs.Restarts.{Restart, Leads}

@@ -15,7 +15,7 @@ use Rattle.uslp_reader.specs.declared.TransferFrame.{TransferFrame}
 use Rattle.uslp_record.specs.Slots.{find}
 use Rattle.uslp_record.specs.Judging.{judging}
 use Rattle.uslp_record.specs.declared.ChannelRecord.{ChannelRecord}
-use Rattle.uslp_many.specs.Many.{noFrames, hearings, KeptMany, paperMany, manyHearing}
+use Rattle.uslp_many.specs.Many.{noFrames, hearings, KeptMany, manyHearing}
 use Rattle.uslp_many.specs.declared.ManyHearing.{ManyHearing}
 use Rattle.uslp_many.proofs.Stops.{no-frame-there, stop-up-to, refused-first}
 use Rattle.uslp_many.proofs as many

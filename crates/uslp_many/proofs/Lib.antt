@@ -1,5 +1,4 @@
 pub mod Tallies
-pub mod Counts
 pub mod Walk
 pub mod Singly
 pub mod Stops

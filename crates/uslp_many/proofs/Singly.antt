@@ -6,7 +6,7 @@ use mathlib.Core.Logic.{_↔_}
 use mathlib.Core.List.{List}
 use native.Mathlib.Omega.{arith}
 use native.Mathlib.Decide.{decLt}
-use lib.ListN.{length, take, drop, length-drop}
+use lib.ListN.{length, take, drop}
 use Rattle.uslp_octets.specs.Octets.{AreOctets}
 use Rattle.uslp_octets.proofs.Laws.{are-drop}
 use Rattle.uslp_kinds.specs.Outcome.{Outcome, done, refused, andThen}

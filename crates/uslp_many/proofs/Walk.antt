@@ -1,12 +1,12 @@
 -- The loop over the frames: what holds at a place, and how a frame, a refusal and the end carry it on.
-use mathlib.Core.Path.{_≡_, refl, ap, ap₂, sym, _∙_, subst}
+use mathlib.Core.Path.{_≡_, refl, ap, sym, _∙_, subst}
 use Prim.Native.Nat.{ℕ, _+_, _-_, _^_, _<_, _≤_}
 use mathlib.Core.Bool.{Bool, true, false, cond}
 use mathlib.Core.List.{List, [], _∷_}
 use native.Mathlib.Omega.{arith}
 use lib.Dec.{eqb}
 use lib.ListN.{length, take, drop, getD, set, length-set, length-drop, drop-of-length-le}
-use lib.Seq.{drop-drop, set-getD}
+use lib.Seq.{drop-drop}
 use Rattle.uslp_kinds.specs.Outcome.{Outcome, done, refused, andThen}
 use Rattle.uslp_primary_header.specs.Header.{lenFrame}
 use Rattle.uslp_reader.specs.Reader.{frameReading}
@@ -14,10 +14,8 @@ use Rattle.uslp_reader.specs.EndToEnd.{Cut, cut, stopping}
 use Rattle.uslp_reader.specs.declared.TransferFrame.{TransferFrame}
 use Rattle.uslp_reader.proofs.Done.{read-done}
 use Rattle.uslp_reader.proofs.EndToEnd.{frame-eight, onto, nothing, cut-refused, cut-more, cut-end, stopping-refused}
-use Rattle.uslp_record.specs.Slots.{find, slotOf, stateAt}
-use Rattle.uslp_record.specs.Record.{Kept, keeping, most}
+use Rattle.uslp_record.specs.Slots.{find, slotOf}
 use Rattle.uslp_record.specs.Judging.{judging, slotJudging, taken}
-use Rattle.uslp_record.specs.declared.Channel.{Channel}
 use Rattle.uslp_record.specs.declared.Slot.{Slot}
 use Rattle.uslp_record.specs.declared.SlotState.the-variants.{Closed}
 use Rattle.uslp_record.specs.declared.ChannelRecord.{ChannelRecord}
@@ -32,7 +30,6 @@ use Rattle.uslp_hearing.specs.declared.FrameArrival.the-variants.{New, Repeat, 
 use Rattle.uslp_hearing.proofs.Ways.{channel, width, count, read-narrow}
 use Rattle.uslp_many.specs.Many.{tally, noFrames, tallyOf, plus, counting, hearings, KeptMany, manyHearing, Small}
 use Rattle.uslp_many.specs.declared.Tally.{Tally}
-use Rattle.uslp_many.proofs.Counts.{Counts}
 
 -- how many frames a tally has
 abbrev total : Tally → ℕ
@@ -79,47 +76,37 @@ module _ (fecf : Bool) (s : List ℕ) (x : TransferFrame) (read : frameReading s
     sum = λ h. omega (arith, h, ap (λ (v : Tally). v .missing) e);
   }
 
-  -- the slot y takes the place of the one that holds it
-  module _ (y : Slot) (there : i < 8) (c : Counts (slotJudging (getD (r .slots) i (slotOf Closed)) (channel x) (width x) (count x))
-      (getD (r .slots) i (slotOf Closed)) t y u) where
-    abbrev old : Slot
-    old = getD (r .slots) i (slotOf Closed)
-
-    abbrev replaced : ChannelRecord
-    replaced = record { slots = set (r .slots) i y }
-
-    by-slot : {o : Outcome (Arrival × Slot)} → slotJudging old (channel x) (width x) (count x) ≡ o
+  -- the slot that holds it is judged
+  module _ (there : i < 8) where
+    by-slot : {o : Outcome (Arrival × Slot)} → slotJudging (getD (r .slots) i (slotOf Closed)) (channel x) (width x) (count x) ≡ o
         → counting t (frameHearing r s fecf) ≡ counting t (taken r (withFrame x (changing i o)))
     by-slot e =
         heard-by (judging-slot r (channel x) (width x) (count x) (read-narrow s fecf x read) i found there ∙ ap (changing i) e)
 
-    stepped-by : (o : Outcome (Arrival × Slot)) → slotJudging old (channel x) (width x) (count x) ≡ o → Stepped fecf s t r u replaced
-    stepped-by (done (a, z)) e =
-        let h = c .0 a z e in
-        let same : u ≡ plus t (tallyOf (done (frameArrival x a))) = h .1 x in
-        let gap = slot-gap old (channel x) (width x) (count x) e in
-        let more = slots-set (r .slots) i z (slotOf Closed) (omega (arith, long)) in
+    -- and the slot y takes its place
+    pub stepped-done : (a : Arrival) (y : Slot) → slotJudging (getD (r .slots) i (slotOf Closed)) (channel x) (width x) (count x) ≡ done (a, y)
+        → u ≡ plus t (tallyOf (done (frameArrival x a))) → Stepped fecf s t r u (record { slots = set (r .slots) i y })
+    stepped-done a y e same =
+        let gap = slot-gap (getD (r .slots) i (slotOf Closed)) (channel x) (width x) (count x) e in
+        let more = slots-set (r .slots) i y (slotOf Closed) (omega (arith, long)) in
         record {
-          is = by-slot e ∙ ap₂ (λ (v : Tally) (k : Slot). (v, record { slots = set (r .slots) i k })) (sym same) (sym (h .0));
+          is = by-slot e ∙ ap (λ (v : Tally). (v, record { slots = set (r .slots) i y })) (sym same);
           eight = length-set (r .slots) i y ∙ long;
           few = omega (arith, ap total same, total-few (done (frameArrival x a)));
           sum = λ less.
               let v : u .missing ≡ t .missing + gapOf a = ap (λ (v : Tally). v .missing) same ∙ ap (λ (n : ℕ). t .missing + n) (gap-is x a) in
-              let w : upToIn (set (r .slots) i y) ≡ upToIn (set (r .slots) i z) = ap (λ (k : Slot). upToIn (set (r .slots) i k)) (h .0) in
-              omega (arith, less, v, w, gap, more);
-        }
-    stepped-by (refused k vs) e =
-        let h = c .1 k vs e in
-        let kept : set (r .slots) i y ≡ r .slots = ap (set (r .slots) i) (h .0) ∙ set-getD (r .slots) i (slotOf Closed) in
-        record {
-          is = by-slot e ∙ ap₂ (λ (v : Tally) (l : List Slot). (v, record { slots = l })) (sym (h .1)) (sym kept);
-          eight = length-set (r .slots) i y ∙ long;
-          few = omega (arith, ap total (h .1), total-few (refused k vs));
-          sum = λ less. omega (arith, less, ap (λ (v : Tally). v .missing) (h .1), ap upToIn kept);
+              omega (arith, less, v, gap, more);
         }
 
-    pub stepped-there : Stepped fecf s t r u replaced
-    stepped-there = stepped-by (slotJudging old (channel x) (width x) (count x)) refl
+    -- or it is passed over
+    pub stepped-refused : {k : ℕ} {vs : List ℕ} → slotJudging (getD (r .slots) i (slotOf Closed)) (channel x) (width x) (count x) ≡ refused k vs
+        → u ≡ plus t (tallyOf (refused k vs)) → Stepped fecf s t r u r
+    stepped-refused {k} {vs} e same = record {
+      is = by-slot e ∙ ap (λ (v : Tally). (v, r)) (sym same);
+      eight = long;
+      few = omega (arith, ap total same, total-few (refused k vs));
+      sum = λ less. omega (arith, less, ap (λ (v : Tally). v .missing) same);
+    }
 
 hearings-next : (fecf : Bool) (f : TransferFrame × List ℕ) (fs : List (TransferFrame × List ℕ)) (t : Tally) (r : ChannelRecord)
     → hearings fecf (f ∷ fs) t r ≡ hearings fecf fs (counting t (frameHearing r (f .1) fecf) .0) (counting t (frameHearing r (f .1) fecf) .1)

@@ -15,9 +15,8 @@ ghost use mathlib.Core.List.{List};
 ghost use Prim.Native.Nat.{ℕ, _≤_, _<_, _^_};
 ghost use Rattle.uslp_kinds.specs.Outcome.{done, refused};
 ghost use Rattle.uslp_reader.specs.declared.TransferFrame.{TransferFrame};
-ghost use Rattle.uslp_record.specs.Judging.{slotJudging};
+ghost use Rattle.uslp_record.specs.Judging.{paperSlot, slotJudging};
 ghost use Rattle.uslp_record.specs.declared.Arrival.{Arrival};
-ghost use Rattle.uslp_record.specs.declared.Slot.{Slot};
 ghost use Rattle.uslp_hearing.specs.Hearing.{channelOf, frameArrival};
 ghost use Rattle.uslp_many.specs.Many.{paperMany, noFrames, plus, tallyOf, manyHearing, Small};
 
@@ -41,12 +40,6 @@ pub struct ManyHearing {
     pub next: ChannelRecord,
 }
 
-// A slot after a frame of its channel, and the tally after it.
-struct Counted {
-    slot: Slot,
-    tally: Tally,
-}
-
 // Hears frames end to end, until the reader refuses what is left or nothing is. It cannot be refused.
 pub fn hear_many(channels: ChannelRecord, buf: &[u8], has_fecf: bool) -> ManyHearing
     ensures { λ r. ⌜ paperMany r ≡ manyHearing channels (now (buf .entry)) «has_fecf» ⌝ }
@@ -60,11 +53,19 @@ pub fn hear_many(channels: ChannelRecord, buf: &[u8], has_fecf: bool) -> ManyHea
                 let header = frame.primary_header;
                 let at = search(next, channel_of(header));
                 if at < SLOTS {
-                    // the slot alone is copied: a record handed over and back would be copied whole for each frame
-                    let counted = count_in(next.slots[at], header, tally);
-                    let slot = counted.slot;
-                    next.slots[at] = slot;
-                    tally = counted.tally;
+                    // a record handed over and back would be copied whole for each frame
+                    match judge_in(next.slots[at], header) {
+                        SlotAnswer::Done {
+                            arrival,
+                            next: heard,
+                        } => {
+                            next.slots[at] = heard;
+                            tally = arrived(tally, arrival);
+                        }
+                        SlotAnswer::Refused(refusal) => {
+                            tally = passed(tally, refusal.number());
+                        }
+                    }
                 } else {
                     tally.not_open += 1;
                 }
@@ -103,28 +104,11 @@ fn no_frames() -> Tally
 }
 
 // A frame of the channel that the slot holds.
-fn count_in(slot: Slot, header: PrimaryHeader, tally: Tally) -> Counted
-    requires { ⌜ Small tally ⌝ }
-    ensures { λ r. ⌜
-        ((a : Arrival) (y : Slot)
-        → slotJudging slot (channelOf header) (header .«vc_frame_count_len») (header .«vc_frame_count») ≡ done (a, y)
-        → (r .slot ≡ y) × ((x : TransferFrame) → r .tally ≡ plus tally (tallyOf (done (frameArrival x a)))))
-        × ((k : ℕ) (vs : List ℕ)
-        → slotJudging slot (channelOf header) (header .«vc_frame_count_len») (header .«vc_frame_count») ≡ refused k vs
-        → (r .slot ≡ slot) × (r .tally ≡ plus tally (tallyOf (refused k vs))))
-        ⌝ }
+fn judge_in(slot: Slot, header: PrimaryHeader) -> SlotAnswer
+    ensures { λ r. ⌜ paperSlot r ≡ slotJudging slot (channelOf header) (header .«vc_frame_count_len») (header .«vc_frame_count») ⌝ }
 {
     let channel = channel_of(header);
-    match slot.judge_count(channel, header.vc_frame_count_len, header.vc_frame_count) {
-        SlotAnswer::Done { arrival, next } => Counted {
-            slot: next,
-            tally: arrived(tally, arrival),
-        },
-        SlotAnswer::Refused(refusal) => Counted {
-            slot,
-            tally: passed(tally, refusal.number()),
-        },
-    }
+    slot.judge_count(channel, header.vc_frame_count_len, header.vc_frame_count)
 }
 
 // A frame that is counted for its channel.

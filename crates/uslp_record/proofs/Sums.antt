@@ -1,6 +1,6 @@
 -- What slots are missing, each up to the largest total: a frame that is counted adds its gap, so that no sum of gaps passes eight times the largest.
 use mathlib.Core.Path.{_≡_, refl, sym, _∙_, ap}
-use mathlib.Core.Bool.{Bool, true, false, cond}
+use mathlib.Core.Bool.{false, cond}
 use mathlib.Core.List.{List, [], _∷_}
 use Prim.Native.Nat.{ℕ, zero, suc, _+_, _*_, _<_, _≤_}
 use native.Mathlib.Omega.{arith}
@@ -8,9 +8,8 @@ use native.Mathlib.Decide.{decLt}
 use borrow.Author.Tests.{lt-ltb, le-ltb}
 use lib.Dec.{ltb}
 use lib.ListN.{length, getD, set}
-use Rattle.uslp_kinds.specs.Outcome.{Outcome, done, refused}
+use Rattle.uslp_kinds.specs.Outcome.{Outcome, done}
 use Rattle.uslp_kinds.proofs.Outcomes.{not-done, done-one}
-use Rattle.uslp_record.specs.Slots.{slotOf}
 use Rattle.uslp_record.specs.Record.{most, missingOf}
 use Rattle.uslp_record.specs.Judging.{ahead, arrivalOf, totalsAfter, overfull, arrivalAt, totalsAt, slotJudging}
 use Rattle.uslp_record.specs.declared.Channel.{Channel}

@@ -1,13 +1,14 @@
 -- `hear_many` meets its contract. The loop's invariant: the hearings from the place on complete the whole.
 use mathlib.Core.Path.{_≡_, refl, ap, sym, _∙_, subst}
 use Prim.Native.Nat.{ℕ, _-_}
-use mathlib.Core.List.{List, []}
+use mathlib.Core.List.{List}
 use native.Mathlib.Omega.{arith}
 use mathlib.Core.Logic.{⊎-elim}
-use lib.ListN.{length, take, drop}
+use lib.ListN.{length, take, drop, getD}
 use Rattle.uslp_octets.specs.Octets.{AreOctets}
 use Rattle.uslp_octets.proofs.Laws.{are-drop}
-use Rattle.uslp_kinds.specs.Outcome.{done}
+use Rattle.uslp_kinds.specs.Outcome.{done, refused}
+use Rattle.uslp_kinds.specs.Answers.{carried}
 use Rattle.uslp_reader.specs.Reader.{paperFrame, frameReading}
 use Rattle.uslp_primary_header.specs.Header.{lenFrame}
 use Rattle.uslp_reader.specs.declared.TransferFrame.{TransferFrame}
@@ -15,15 +16,19 @@ use Rattle.uslp_reader.specs.declared.FrameAnswer.{FrameAnswer}
 use Rattle.uslp_reader.proofs.Parts.{rest-part}
 use Rattle.uslp_reader.proofs.EndToEnd.{frame-eight}
 use Rattle.uslp_roundtrip.proofs.Exactly.{own-octets}
-use Rattle.uslp_record.specs.Slots.{find}
+use Rattle.uslp_record.specs.Slots.{find, slotOf}
+use Rattle.uslp_record.specs.Judging.{paperSlot, slotJudging}
+use Rattle.uslp_record.specs.declared.SlotState.the-variants.{Closed}
+use Rattle.uslp_record.specs.declared.SlotAnswer.{SlotAnswer}
 use Rattle.uslp_record.specs.declared.Channel.{Channel}
 use Rattle.uslp_record.specs.declared.ChannelRecord.{ChannelRecord}
 use Rattle.uslp_record.proofs.Seek.{long-of}
-use Rattle.uslp_hearing.proofs.Ways.{channel}
-use Rattle.uslp_many.specs.Many.{tally, Small}
+use Rattle.uslp_record.proofs.Sums.{gapOf, slot-gap-fits}
+use Rattle.uslp_hearing.proofs.Ways.{channel, width, count}
+use Rattle.uslp_many.specs.Many.{tally, plus, tallyOf, Small}
 use Rattle.uslp_many.specs.declared.Tally.{Tally}
 use Rattle.uslp_many.proofs.Tallies.{parts}
-use Rattle.uslp_many.proofs.Walk.{Stepped, stepped-none, stepped-there, goes-refused, goes-all, Heard, heard-nothing, heard-small, heard-more}
+use Rattle.uslp_many.proofs.Walk.{Stepped, stepped-none, stepped-done, stepped-refused, goes-refused, goes-all, Heard, heard-nothing, heard-small, heard-more}
 use borrow.Author.Needs.{needs}
 use Rattle.uslp_many.proofs.hear_many.Statement.{statement}
 use Rattle.uslp_many.proofs.hear_many.Tie as tie
@@ -77,10 +82,24 @@ reading : (d : tie.After-known-told Inv-loop μ-loop) → frameReading (rest (re
 reading d = answered (readOf d) (d .before .frame .given .1)
 
 small : (d : tie.After-search Inv-loop μ-loop) → Small (loopOf (readOf (frameOf d)) .loop .tally)
-small d = let l = loopOf (readOf (frameOf d)) in heard-small (l .loop .inv) (omega (arith, startOf l .good, readOf (frameOf d) .before .before .loop-test .taken))
+small d =
+    let l = loopOf (readOf (frameOf d)) in
+    heard-small (l .loop .inv) (omega (arith, startOf l .good, readOf (frameOf d) .before .before .loop-test .taken))
 
-count-in-requires : tie.Need-count-in-requires Inv-loop μ-loop
-count-in-requires c κs = small (c .before .before)
+-- what judging the slot said
+judged : (k : tie.After-judge-in Inv-loop μ-loop) {r : SlotAnswer} → k .judge-in .result ≡ r
+    → slotJudging (getD (loopOf (readOf (frameOf (k .before .before .before))) .loop .next .slots) (k .before .before .before .search .result) (slotOf Closed))
+    (channel (frame (frameOf (k .before .before .before)))) (width (frame (frameOf (k .before .before .before))))
+    (count (frame (frameOf (k .before .before .before))))
+    ≡ paperSlot r
+judged k e = sym (k .judge-in .ensures) ∙ ap paperSlot e
+
+arrived-requires : tie.Need-arrived-requires Inv-loop μ-loop
+arrived-requires c κs =
+    let k = c .before .before .before in (
+      small (k .before .before .before),
+      λ gap e. omega (arith, slot-gap-fits _ _ _ _ (judged k (c .before .arrival .given .1)), ap gapOf e),
+    )
 
 add-tally : tie.Need-add-tally Inv-loop μ-loop
 add-tally c = record { fits = omega (arith, small (c .before .before) .«not_open») }
@@ -109,18 +128,35 @@ stepped j =
     let d = j .before in
     let f = frameOf d in
     let l = loopOf (readOf f) in
+    let t = l .loop .tally in
+    let r = l .loop .next in
     let long = l .loop .inv .eight in
     let fecf = startOf l .args .has-fecf in
     let s = take (lenFrame (frame f .«primary_header»)) (rest (readOf f)) in
     ⊎-elim
     (λ w.
-    subst (λ (u : Tally). Heard-there d u (j .if1 .next)) (sym (w .6))
-    (subst (Heard-there d _) (sym (w .5))
-    (stepped-there fecf s (frame f) (own d) (l .loop .tally) _ (l .loop .next) long (d .search .result) (found d) _ (omega arith) (w .2 .ensures))))
+    let k : tie.After-judge-in Inv-loop μ-loop =
+    record { before = record { before = record { before = d; if1 = w .0 }; judge-in-arg = w .1 }; judge-in = w .2 } in
+    let given = w .4 .given in
+    subst (λ (u : Tally). Heard-there d u (j .if1 .next)) (sym (w .8))
+    (subst (Heard-there d _) (sym (w .7))
+    (stepped-done fecf s (frame f) (own d) t _ r long (d .search .result) (found d) (omega arith) (given .0 .0) (given .0 .1 .0)
+    (judged k (given .1)) (w .6 .ensures (frame f)))))
+    (⊎-elim
+    (λ w.
+    let k : tie.After-judge-in Inv-loop μ-loop =
+    record { before = record { before = record { before = d; if1 = w .0 }; judge-in-arg = w .1 }; judge-in = w .2 } in
+    let given = w .4 .given in
+    let vs = carried (given .0 .0) in
+    subst (λ (u : Tally). Heard-there d u (j .if1 .next)) (sym (w .9))
+    (subst (Heard-there d _) (sym (w .8))
+    (stepped-refused fecf s (frame f) (own d) t _ r long (d .search .result) (found d) (omega arith) (judged k (given .1))
+    (w .7 .ensures vs ∙ ap (λ (n : ℕ). plus t (tallyOf (refused n vs))) (w .6 .ensures)))))
     (λ w.
     subst (λ (u : Tally). Heard-there d u (j .if1 .next)) (sym (w .3))
     (subst (Heard-there d _) (sym (w .2))
-    (stepped-none fecf s (frame f) (own d) (l .loop .tally) _ (l .loop .next) long (d .search .result) (found d) (omega arith) (parts (l .loop .tally) (tally 0 0 0 0 1 0 0) _ (omega arith) (omega arith) (omega arith) (omega arith) (omega arith) (omega arith) (omega arith)))))
+    (stepped-none fecf s (frame f) (own d) t _ r long (d .search .result) (found d) (omega arith)
+    (parts t (tally 0 0 0 0 1 0 0) _ (omega arith) (omega arith) (omega arith) (omega arith) (omega arith) (omega arith) (omega arith))))))
     (j .if1 .came)
 
 loop-again : tie.Need-loop-again Inv-loop μ-loop
@@ -140,7 +176,7 @@ loop-less c =
 returns : tie.Need-returns Inv-loop μ-loop
 returns c =
     let d = c .before .before .before in
-    goes-refused (loopOf d .loop .inv .goes) (omega arith) (answered d (c .before .refusal .given .1))
+    goes-refused (loopOf d .loop .inv .goes) (omega arith) (answered d (c .before .refusal2 .given .1))
 
 returns-2 : tie.Need-returns-2 Inv-loop μ-loop
 returns-2 c = let l = c .before in goes-all (l .loop .inv .goes) (omega arith)
@@ -162,9 +198,14 @@ hear-many-spec =
     (λ c κs. search needs)
     (λ c. search needs)
     (λ c. search needs)
-    count-in-requires
+    (λ c κs. search needs)
     (λ c. search needs)
     (λ c. search needs)
+    (λ c. search needs)
+    arrived-requires
+    (λ c. search needs)
+    (λ c κs. search needs)
+    (λ c κs. small (c .before .before .before .before .before .before .before))
     add-tally
     (λ c κs. search needs)
     add-place
