@@ -5,6 +5,7 @@ use uslp_hearing::handed_on;
 use uslp_hearing::hear;
 use uslp_kinds::DoneAnswer;
 use uslp_kinds::LengthAnswer;
+use uslp_many::hear_many;
 use uslp_record::Channel;
 use uslp_record::ChannelRecord;
 use uslp_record::TotalAnswer;
@@ -25,6 +26,19 @@ fn take(channels: ChannelRecord, octets: &[u8]) -> ChannelRecord {
             FrameArrival::Late => say(b"late, octets handed on: ", reading.len() as u64),
         },
         HearAnswer::Refused(refusal) => say(b"refused: ", refusal.number() as u64),
+    }
+    heard.next
+}
+
+// A replayed pass: frames end to end, heard in one call. What the reader refuses, and all behind it, was not heard.
+fn replay(channels: ChannelRecord, pass: &[u8]) -> ChannelRecord {
+    let heard = hear_many(channels, pass, false);
+    let tally = heard.tally;
+    let stopped = heard.stopped;
+    say(b"new in the pass: ", tally.new);
+    say(b"missing before them: ", tally.missing);
+    if stopped < pass.len() {
+        say(b"octets not heard: ", (pass.len() - stopped) as u64);
     }
     heard.next
 }
@@ -64,6 +78,10 @@ fn main() {
     channels = take(channels, b"\xC1\x23\x48\xA6\x00\x0A\x01\x0B\xE4\x0A\xF3");
     channels = restart(channels);
     channels = take(channels, b"\xC1\x23\x48\xA6\x00\x0A\x01\x0D\xE4\x0A\xF5");
+    channels = replay(
+        channels,
+        b"\xC1\x23\x48\xA6\x00\x0A\x01\x0E\xE4\x0A\xF6\xC1\x23\x48\xA6\x00\x0A\x01\x10\xE4\x0A\xF8\xC1\x23\x48",
+    );
     match channels.total_missing() {
         TotalAnswer::Done(missing) => say(b"missing in all: ", missing),
         TotalAnswer::Refused(refusal) => say(b"refused: ", refusal.number() as u64),

@@ -1,4 +1,4 @@
--- Hearing frames end to end (docs/RULES.md, section 6.4): one at a time, over what their lengths cut off.
+-- Hearing frames end to end (docs/RULES.md, section 6.7): one at a time, over what their lengths cut off.
 use Prim.Native.Nat.{ℕ, _+_, _-_, _*_, _^_, _<_, _≤_}
 use mathlib.Core.Bool.{Bool, cond}
 use mathlib.Core.List.{List, [], _∷_}
