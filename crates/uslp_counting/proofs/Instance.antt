@@ -65,7 +65,8 @@ unfolding places leaders aheadOf handings following
 one-missing =
     let less = lost-two 2 (omega arith) in
     let c = counted craft 1 false sender (omega arith) (omega arith) emptyRecord begun refl begins (two 0 2) (calls 0 2) refl (near 2 (omega arith))
-    (unfilled sender (omega arith) (omega arith) emptyRecord begun refl begins (two 0 2) (near 2 (omega arith)) (omega arith) (omega arith)) in
+    (unfilled sender (omega arith) (omega arith) emptyRecord begun refl begins (two 0 2) (calls 0 2) refl (near 2 (omega arith)) (omega arith)
+    (omega arith)) in
     (c .0, c .1 ∙ less)
 
 -- both in one call

@@ -14,10 +14,10 @@ use Rattle.uslp_record.specs.declared.SlotState.the-variants.{Opened}
 use Rattle.uslp_record.specs.declared.ChannelRecord.{ChannelRecord}
 use Rattle.uslp_hearing.specs.Hearing.{frameHearing}
 use Rattle.uslp_counting.specs.Places.{furthest, aheadOf, leaders, Window, lost}
-use Rattle.uslp_counting.specs.History.{Handing, called, Roomy, Unfilled, Sender, Event, callOf, placesOf, places}
+use Rattle.uslp_counting.specs.History.{Call, Handing, called, Roomy, Unfilled, standsFor, singly, Sender, Event, callOf, placesOf, places}
 use Rattle.uslp_counting.specs.History.Event.{arrives, damaged, elsewhere, misfits, opened, closed, again}
 use Rattle.uslp_counting.specs.Restarts.{Leads}
-use Rattle.uslp_counting.proofs.Singly.{Steps, steps-of}
+use Rattle.uslp_counting.proofs.Singly.{over-roomy, singly-unfilled, Steps, steps-of}
 use Rattle.uslp_counting.proofs.Singly.Steps.{ends, next, restart}
 use Rattle.uslp_counting.proofs.Stands.{Stands, stands-opened}
 use Rattle.uslp_counting.proofs.Restarts.{restart-keeps}
@@ -90,33 +90,35 @@ module _ {K : Channel} {width : ℕ} {fecf : Bool} (S : Sender K width fecf) whe
               (subst (λ (l : List ℕ). lost l ≤ most) (sym (h .leads (places es))) less),
         )
 
-    -- the event that follows a run
-    next-roomy : {es : List (Event K width)} {hs : List Handing} {r q : ChannelRecord} → Steps frameHearing S r es hs q
+    -- the events that follow a run
+    rooms-after : {es : List (Event K width)} {hs : List Handing} {r q : ChannelRecord} → Steps frameHearing S r es hs q
         → (seen before : List ℕ) (t : SlotState) → Stands K r t → Counting S seen before t
-        → (e : Event K width) → Window (256 ^ width / 2) seen (places (es ++ (e ∷ []))) → length (places (es ++ (e ∷ []))) + length seen ≤ most
-        → lost (before ++ leaders seen (places (es ++ (e ∷ [])))) ≤ most → Roomy frameHearing K q (callOf S e)
+        → (ms : List (Event K width)) → Window (256 ^ width / 2) seen (places (es ++ ms)) → length (places (es ++ ms)) + length seen ≤ most
+        → lost (before ++ leaders seen (places (es ++ ms))) ≤ most → Unfilled frameHearing K q (map (callOf S) ms)
     unfolding places
-    next-roomy (ends {r = r}) seen before t at c e near few less =
-        let w = window-first e seen [] near in
-        roomy e r at c (w .0) [] (omega (arith, length-append (placesOf e) [], length-append (placesOf e) seen, few)) less
-    next-roomy (next {r = r} {es = es} d room rest) seen before t at c e near few less =
-        let ps = places (es ++ (e ∷ [])) in
+    rooms-after (ends {r = r}) seen before t at c ms near few less = rooms ms r seen before t at c near few less
+    rooms-after (next {r = r} {es = es} d room rest) seen before t at c ms near few less =
+        let ps = places (es ++ ms) in
         let w = window-first d seen ps near in
         let h = went S lo hi d r at c (w .0) room in
-        next-roomy rest (seenWith d seen) (h .leading) (h .state) (h .stands) (h .counting) e (w .1)
+        rooms-after rest (seenWith d seen) (h .leading) (h .state) (h .stands) (h .counting) ms (w .1)
         (omega (arith, length-append (placesOf d) ps, length-append (placesOf d) seen, few))
         (subst (λ (l : List ℕ). lost l ≤ most) (sym (h .leads ps)) less)
-    next-roomy (restart g rest) seen before t at c e near few less = next-roomy rest seen before t (restart-keeps g K t at) c e near few less
+    rooms-after (restart g rest) seen before t at c ms near few less = rooms-after rest seen before t (restart-keeps g K t at) c ms near few less
 
     pub unfilled-over : (r₀ r q : ChannelRecord) → length (r₀ .slots) ≡ 8 → opening r₀ K width ≡ keeping (done tt) r
         → {es : List (Event K width)} {hs : List Handing} → Leads frameHearing S r es hs q
-        → (e : Event K width) → Window (256 ^ width / 2) [] (places (es ++ (e ∷ [])))
-        → length (places (es ++ (e ∷ []))) < 2 ^ 60 → lost (leaders [] (places (es ++ (e ∷ [])))) < 2 ^ 60 → Roomy frameHearing K q (callOf S e)
-    unfilled-over r₀ r q long begins l e near few less =
-        next-roomy (steps-of frameHearing S l) [] [] (Opened K width) (stands-opened K width r₀ r long begins) quiet e near (omega arith) (omega arith)
+        → (ms : List (Event K width)) (c : Call) → standsFor c ≡ map (callOf S) ms → Window (256 ^ width / 2) [] (places (es ++ ms))
+        → length (places (es ++ ms)) < 2 ^ 60 → lost (leaders [] (places (es ++ ms))) < 2 ^ 60 → Roomy frameHearing K q c
+    unfilled-over r₀ r q long begins l ms c stand near few less =
+        over-roomy frameHearing K q c
+        (subst (Unfilled frameHearing K q) (sym stand)
+        (rooms-after (steps-of frameHearing S l) [] [] (Opened K width) (stands-opened K width r₀ r long begins) quiet ms near (omega arith) (omega arith)))
 
     pub unfilled : (r₀ r : ChannelRecord) → length (r₀ .slots) ≡ 8 → opening r₀ K width ≡ keeping (done tt) r
-        → (es : List (Event K width)) → Window (256 ^ width / 2) [] (places es) → length (places es) < 2 ^ 60 → lost (leaders [] (places es)) < 2 ^ 60
-        → Unfilled frameHearing K r (map (callOf S) es)
-    unfilled r₀ r long begins es near few less =
-        rooms es r [] [] (Opened K width) (stands-opened K width r₀ r long begins) quiet near (omega arith) (omega arith)
+        → (es : List (Event K width)) (cs : List Call) → singly cs ≡ map (callOf S) es → Window (256 ^ width / 2) [] (places es)
+        → length (places es) < 2 ^ 60 → lost (leaders [] (places es)) < 2 ^ 60 → Unfilled frameHearing K r cs
+    unfilled r₀ r long begins es cs stand near few less =
+        singly-unfilled frameHearing K cs r
+        (subst (Unfilled frameHearing K r) (sym stand)
+        (rooms es r [] [] (Opened K width) (stands-opened K width r₀ r long begins) quiet near (omega arith) (omega arith)))

@@ -54,6 +54,22 @@ module _ (H : Hearer) (K : Channel) where
   roomy-over r (opens k w) room = one-unfilled r (opens k w) room
   roomy-over r (closes k) room = one-unfilled r (closes k) room
 
+  -- and back
+  all-none-full : (fecf : Bool) (fs : List (TransferFrame × List ℕ)) (r : ChannelRecord) → Unfilled H K r (map (hearing fecf) fs) → NoneFull H K r fs fecf
+  unfolding NoneFull Unfilled
+  all-none-full fecf [] r room = tt
+  all-none-full fecf (f ∷ fs) r room = (room .0, all-none-full fecf fs (heard H K r (f .1) fecf .1) (room .1))
+
+  one-roomy : (r : ChannelRecord) (c : Call) → Unfilled H K r (c ∷ []) → Roomy H K r c
+  unfolding Unfilled
+  one-roomy r c room = room .0
+
+  pub over-roomy : (r : ChannelRecord) (c : Call) → Unfilled H K r (standsFor c) → Roomy H K r c
+  over-roomy r (hears s fecf) room = one-roomy r (hears s fecf) room
+  over-roomy r (hears-many s fecf) room = all-none-full fecf (cut fecf s .frames) r room
+  over-roomy r (opens k w) room = one-roomy r (opens k w) room
+  over-roomy r (closes k) room = one-roomy r (closes k) room
+
   -- calls after calls
   run-append : (cs ds : List Call) (r : ChannelRecord) → run H K r (cs ++ ds) ≡ run H K (run H K r cs) ds
   unfolding run
@@ -95,6 +111,21 @@ module _ (H : Hearer) (K : Channel) where
   unfilled-singly (c ∷ cs) r room =
       unfilled-append (standsFor c) (singly cs) r (roomy-over r c (room .0))
       (subst (λ (q : List Handing × ChannelRecord). Unfilled H K (q .1) (singly cs)) (called-over r c) (unfilled-singly cs (called H K r c .1) (room .1)))
+
+  unfilled-parts : (cs ds : List Call) (r : ChannelRecord) → Unfilled H K r (cs ++ ds) → Unfilled H K r cs × Unfilled H K (run H K r cs) ds
+  unfolding run Unfilled
+  unfilled-parts [] ds r room = (tt, room)
+  unfilled-parts (c ∷ cs) ds r room = let p = unfilled-parts cs ds (called H K r c .1) (room .1) in ((room .0, p .0), p .1)
+
+  pub singly-unfilled : (cs : List Call) (r : ChannelRecord) → Unfilled H K r (singly cs) → Unfilled H K r cs
+  unfolding Unfilled
+  singly-unfilled [] r room = tt
+  singly-unfilled (c ∷ cs) r room =
+      let p = unfilled-parts (standsFor c) (singly cs) r room in (
+        over-roomy r c (p .0),
+        singly-unfilled cs (called H K r c .1)
+            (subst (λ (q : List Handing × ChannelRecord). Unfilled H K (q .1) (singly cs)) (sym (called-over r c)) (p .1)),
+      )
 
 module _ (H : Hearer) {K : Channel} {width : ℕ} {fecf : Bool} (S : Sender K width fecf) where
   -- a run as a step for each event

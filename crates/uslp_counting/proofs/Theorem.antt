@@ -1,4 +1,5 @@
--- The console counts what it lacks, over restarts and calls of many frames too: what is handed on is what is ahead of all before it, and what is missing is what was lost.
+-- The console counts what it lacks, over restarts and calls of many frames too: what is handed on is what is ahead of all before it, and
+-- what is missing is what was lost.
 use mathlib.Core.Path.{_≡_, refl, sym, _∙_, ap, subst}
 use mathlib.Core.Bool.{Bool}
 use mathlib.Core.List.{List, [], _∷_, _++_, map, append-nil}
@@ -12,7 +13,7 @@ use Rattle.uslp_record.specs.declared.SlotState.the-variants.{Opened}
 use Rattle.uslp_record.specs.declared.ChannelRecord.{ChannelRecord}
 use Rattle.uslp_hearing.specs.Hearing.{frameHearing}
 use Rattle.uslp_counting.specs.Places.{leaders, Window, lost}
-use Rattle.uslp_counting.specs.History.{Hearer, Handing, called, run, handed, Unfilled, missingFor, Sender, Event, callOf, following, handings, places}
+use Rattle.uslp_counting.specs.History.{Hearer, Call, Handing, called, run, handed, Unfilled, singly, missingFor, Sender, Event, callOf, following, handings, places}
 use Rattle.uslp_counting.specs.Demand.{Demand3}
 use Rattle.uslp_counting.specs.Restarts.{Leads, Demand3Over}
 use Rattle.uslp_counting.specs.Restarts.Leads.{ends as leads-end, next as leads-next}
@@ -106,9 +107,11 @@ unaltered-over {K} {width} {fecf} S lo hi r₀ r r₀′ r′ long long′ begin
 pub unaltered : {K : Channel} {width : ℕ} {fecf : Bool} (S : Sender K width fecf) → 1 ≤ width → width ≤ 7
     → (r₀ r r₀′ r′ : ChannelRecord) → length (r₀ .slots) ≡ 8 → length (r₀′ .slots) ≡ 8
     → opening r₀ K width ≡ keeping (done tt) r → opening r₀′ K width ≡ keeping (done tt) r′
-    → (es es′ : List (Event K width)) → places es ≡ places es′ → Window (256 ^ width / 2) [] (places es)
-    → Unfilled frameHearing K r (map (callOf S) es) → Unfilled frameHearing K r′ (map (callOf S) es′)
-    → (handed frameHearing K r (map (callOf S) es) ≡ handed frameHearing K r′ (map (callOf S) es′))
-    × (missingFor K (run frameHearing K r (map (callOf S) es)) ≡ missingFor K (run frameHearing K r′ (map (callOf S) es′)))
-unaltered S lo hi r₀ r r₀′ r′ long long′ begins begins′ es es′ same near room room′ =
-    unaltered-over S lo hi r₀ r r₀′ r′ long long′ begins begins′ (leads-of frameHearing S es r room) (leads-of frameHearing S es′ r′ room′) same near
+    → (es es′ : List (Event K width)) (cs cs′ : List Call) → singly cs ≡ map (callOf S) es → singly cs′ ≡ map (callOf S) es′
+    → places es ≡ places es′ → Window (256 ^ width / 2) [] (places es) → Unfilled frameHearing K r cs → Unfilled frameHearing K r′ cs′
+    → (handed frameHearing K r cs ≡ handed frameHearing K r′ cs′)
+    × (missingFor K (run frameHearing K r cs) ≡ missingFor K (run frameHearing K r′ cs′))
+unaltered {K} {width} {fecf} S lo hi r₀ r r₀′ r′ long long′ begins begins′ es es′ cs cs′ stand stand′ same near room room′ =
+    let a = counted K width fecf S lo hi r₀ r long begins es cs stand near room in
+    let b = counted K width fecf S lo hi r₀′ r′ long′ begins′ es′ cs′ stand′ (subst (Window (256 ^ width / 2) []) same near) room′ in
+    (a .0 ∙ ap (λ (ps : List ℕ). handings S (leaders [] ps)) same ∙ sym (b .0), a .1 ∙ ap (λ (ps : List ℕ). lost (leaders [] ps)) same ∙ sym (b .1))

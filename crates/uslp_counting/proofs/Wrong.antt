@@ -38,7 +38,8 @@ module _ (H : Hearer) (demand : Demand3 H) (room : (q : ℕ) → Unfilled H craf
   -- what is missing after 0 and q comes from the places sent
   pub missing-two : (q : ℕ) → 0 < q → q ≤ 128 → missingFor craft (run H craft begun (calls 0 q)) ≡ q - 1
   missing-two q some few =
-      demand craft 1 false sender (omega arith) (omega arith) emptyRecord begun refl begins (two 0 q) (calls 0 q) refl (near q few) (room q) .1 ∙ lost-two q some
+      demand craft 1 false sender (omega arith) (omega arith) emptyRecord begun refl begins (two 0 q) (calls 0 q) refl (near q few) (room q) .1
+      ∙ lost-two q some
 
   -- a hearing that changes no record: by the missing total after a gap
   pub no-still : ((r : ChannelRecord) (s : List ℕ) (f : Bool) → recordOf (H r s f) ≡ r) → ⊥
@@ -60,7 +61,8 @@ module _ (H : Hearer) (demand : Demand3 H) (room : (q : ℕ) → Unfilled H craf
   no-repeater repeats =
       let first = answerOf (H begun (sent 0) false) in
       let later = recordOf (H begun (sent 0) false) in
-      let h = demand craft 1 false sender (omega arith) (omega arith) emptyRecord begun refl begins (two 0 2) (calls 0 2) refl (near 2 (omega arith)) (room 2) .0 in
+      let h = demand craft 1 false sender (omega arith) (omega arith) emptyRecord begun refl begins (two 0 2) (calls 0 2) refl (near 2 (omega arith))
+      (room 2) .0 in
       let a = ap length h in
       let b = one-at-most craft (sent 0) first in
       let c = ap (λ (o : Outcome FrameArrival). length (handing craft (sent 0) first ++ (handing craft (sent 2) o ++ []))) (repeats later) in

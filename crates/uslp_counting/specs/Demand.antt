@@ -13,9 +13,8 @@ use Rattle.uslp_record.specs.declared.ChannelRecord.{ChannelRecord}
 use Rattle.uslp_counting.specs.Places.{leaders, Window, lost}
 use Rattle.uslp_counting.specs.History.{Hearer, Call, run, handed, Unfilled, singly, missingFor, Sender, Event, callOf, handings, places}
 
--- The channel is opened; then come calls, each of which stands for one event or more. Where each arrival is near those before it and no
--- hearing of the channel's frames gets TOTAL_FULL, the frames handed on are those ahead of all before them, and what is missing is what was
--- lost between them.
+-- The channel is opened; then come calls that stand for events. Where each arrival is near those before it and no hearing of the channel's
+-- frames gets TOTAL_FULL, the frames handed on are those ahead of all before them, and what is missing is what was lost between them.
 abbrev pub Demand3 : Hearer → Type 0
 Demand3 H =
     (K : Channel) (width : ℕ) (fecf : Bool) (S : Sender K width fecf) → 1 ≤ width → width ≤ 7

@@ -24,7 +24,7 @@ use Rattle.uslp_hearing.specs.declared.FrameArrival.the-variants.{New, Repeat, 
 abbrev pub Hearer : Type 0
 Hearer = ChannelRecord → List ℕ → Bool → Kept FrameArrival
 
--- a call of the console; one of its hearings has a frame at the front of the octets, one has frames end to end
+-- a call of the console: it hears octets with a frame at their front, or with frames end to end; it opens or closes a channel
 pub data Call : Type 0 where
   hears : List ℕ → Bool → Call
   hears-many : List ℕ → Bool → Call

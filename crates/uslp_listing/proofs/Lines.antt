@@ -94,7 +94,8 @@ module _ (place frames : ℕ) where
   pub lines-end : linesFrom place frames [] ≡ summary frames place 0
   lines-end = none (cut-end false) refl
 
-  pub lines-refused : (s : List ℕ) {k : ℕ} {vs : List ℕ} → 0 < length s → frameReading s false ≡ refused k vs → linesFrom place frames s ≡ summary frames place k
+  pub lines-refused : (s : List ℕ) {k : ℕ} {vs : List ℕ} → 0 < length s → frameReading s false ≡ refused k vs
+      → linesFrom place frames s ≡ summary frames place k
   lines-refused s h e = none (cut-refused false s e) (ap answerOf (stopping-refused false s h e))
 
   pub lines-more : (s : List ℕ) (x : TransferFrame) → frameReading s false ≡ done x

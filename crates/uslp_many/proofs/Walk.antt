@@ -60,7 +60,8 @@ pub record Stepped (fecf : Bool) (s : List ℕ) (t : Tally) (r : ChannelRecord) 
 module _ (fecf : Bool) (s : List ℕ) (x : TransferFrame) (read : frameReading s fecf ≡ done x) (t u : Tally) (r : ChannelRecord)
     (long : length (r .slots) ≡ 8) (i : ℕ) (found : i ≡ find (channel x) (r .slots)) where
   -- by what judging its count says
-  heard-by : {o : Outcome (Arrival × Change)} → judging r (channel x) (width x) (count x) ≡ o → counting t (frameHearing r s fecf) ≡ counting t (taken r (withFrame x o))
+  heard-by : {o : Outcome (Arrival × Change)} → judging r (channel x) (width x) (count x) ≡ o
+      → counting t (frameHearing r s fecf) ≡ counting t (taken r (withFrame x o))
   heard-by e =
       ap (λ (v : Outcome TransferFrame). counting t (taken r (andThen v (judgedFrame r)))) read
       ∙ ap (λ (v : Outcome (Arrival × Change)). counting t (taken r (withFrame x v))) e

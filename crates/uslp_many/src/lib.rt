@@ -12,7 +12,7 @@ use uslp_record::SlotAnswer;
 use uslp_record::search;
 ghost use mathlib.Core.Path.{_≡_};
 ghost use mathlib.Core.List.{List};
-ghost use Prim.Native.Nat.{ℕ, _≤_, _<_, _^_};
+ghost use Prim.Native.Nat.{ℕ, _<_, _^_};
 ghost use Rattle.uslp_kinds.specs.Outcome.{done, refused};
 ghost use Rattle.uslp_reader.specs.declared.TransferFrame.{TransferFrame};
 ghost use Rattle.uslp_record.specs.Judging.{paperSlot, slotJudging};
@@ -55,16 +55,11 @@ pub fn hear_many(channels: ChannelRecord, buf: &[u8], has_fecf: bool) -> ManyHea
                 if at < SLOTS {
                     // a record handed over and back would be copied whole for each frame
                     match judge_in(next.slots[at], header) {
-                        SlotAnswer::Done {
-                            arrival,
-                            next: heard,
-                        } => {
-                            next.slots[at] = heard;
+                        SlotAnswer::Done { arrival, slot } => {
+                            next.slots[at] = slot;
                             tally = arrived(tally, arrival);
                         }
-                        SlotAnswer::Refused(refusal) => {
-                            tally = passed(tally, refusal.number());
-                        }
+                        SlotAnswer::Refused(refusal) => tally = passed(tally, refusal.number()),
                     }
                 } else {
                     tally.not_open += 1;

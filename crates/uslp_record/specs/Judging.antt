@@ -26,7 +26,7 @@ paperCount (count-answer.Done arrival change) = done (arrival, change)
 paperCount (count-answer.Refused r) = refusal r
 
 abbrev pub paperSlot : SlotAnswer → Outcome (Arrival × Slot)
-paperSlot (slot-answer.Done arrival next) = done (arrival, next)
+paperSlot (slot-answer.Done arrival slot) = done (arrival, slot)
 paperSlot (slot-answer.Refused r) = refusal r
 
 -- new count less last by wrapping subtraction, reduced to the width

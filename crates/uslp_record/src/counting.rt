@@ -32,10 +32,10 @@ impl ChannelRecord {
             return CountAnswer::Refused(Refusal::NotOpen);
         }
         let slots = self.slots;
-        let slot = slots[at];
-        match slot.judge_count(channel, width, count) {
-            SlotAnswer::Done { arrival, next } => {
-                let state = next.state;
+        let found = slots[at];
+        match found.judge_count(channel, width, count) {
+            SlotAnswer::Done { arrival, slot } => {
+                let state = slot.state;
                 CountAnswer::Done {
                     arrival,
                     change: Change { at, state },
@@ -76,7 +76,7 @@ impl Slot {
         };
         SlotAnswer::Done {
             arrival,
-            next: Slot { state: heard },
+            slot: Slot { state: heard },
         }
     }
 }

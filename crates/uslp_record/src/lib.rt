@@ -90,7 +90,7 @@ pub enum CountAnswer {
 
 // What a frame's count is to the slot that holds its channel, and the slot after it.
 pub enum SlotAnswer {
-    Done { arrival: Arrival, next: Slot },
+    Done { arrival: Arrival, slot: Slot },
     Refused(Refusal),
 }
 

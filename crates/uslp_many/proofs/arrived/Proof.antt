@@ -16,17 +16,20 @@ returns : tie.Need-returns
 returns c x =
     let a = c .before .before .before in
     let s = a .before .before .args .tally in
-    by-arrival s x (a .arrival .given .1) (parts s (tally 1 (a .arrival .given .0 .0) 0 0 0 0 0) _ (omega arith) (omega arith) (omega arith) (omega arith) (omega arith) (omega arith) (omega arith))
+    by-arrival s x (a .arrival .given .1)
+    (parts s (tally 1 (a .arrival .given .0 .0) 0 0 0 0 0) _ (omega arith) (omega arith) (omega arith) (omega arith) (omega arith) (omega arith) (omega arith))
 
 returns-2 : tie.Need-returns-2
 returns-2 c x =
     let s = c .before .before .before .args .tally in
-    by-arrival s x (c .before .enum-told .given .1) (parts s (tally 0 0 1 0 0 0 0) _ (omega arith) (omega arith) (omega arith) (omega arith) (omega arith) (omega arith) (omega arith))
+    by-arrival s x (c .before .enum-told .given .1)
+    (parts s (tally 0 0 1 0 0 0 0) _ (omega arith) (omega arith) (omega arith) (omega arith) (omega arith) (omega arith) (omega arith))
 
 returns-3 : tie.Need-returns-3
 returns-3 c x =
     let s = c .before .before .before .args .tally in
-    by-arrival s x (c .before .enum-told2 .given .1) (parts s (tally 0 0 0 1 0 0 0) _ (omega arith) (omega arith) (omega arith) (omega arith) (omega arith) (omega arith) (omega arith))
+    by-arrival s x (c .before .enum-told2 .given .1)
+    (parts s (tally 0 0 0 1 0 0 0) _ (omega arith) (omega arith) (omega arith) (omega arith) (omega arith) (omega arith) (omega arith))
 
 pub arrived-spec : {M : Type 1} → statement M
 arrived-spec =

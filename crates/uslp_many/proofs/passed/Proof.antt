@@ -9,17 +9,20 @@ use Rattle.uslp_many.proofs.passed.Tie as tie
 returns : tie.Need-returns
 returns c vs =
     let s = c .before .before .args .tally in
-    by-number s vs (c .before .match .keys1) (parts s (tally 0 0 0 0 1 0 0) _ (omega arith) (omega arith) (omega arith) (omega arith) (omega arith) (omega arith) (omega arith))
+    by-number s vs (c .before .match .keys1)
+    (parts s (tally 0 0 0 0 1 0 0) _ (omega arith) (omega arith) (omega arith) (omega arith) (omega arith) (omega arith) (omega arith))
 
 returns-2 : tie.Need-returns-2
 returns-2 c vs =
     let s = c .before .before .args .tally in
-    by-number s vs (c .before .match .keys2) (parts s (tally 0 0 0 0 0 1 0) _ (omega arith) (omega arith) (omega arith) (omega arith) (omega arith) (omega arith) (omega arith))
+    by-number s vs (c .before .match .keys2)
+    (parts s (tally 0 0 0 0 0 1 0) _ (omega arith) (omega arith) (omega arith) (omega arith) (omega arith) (omega arith) (omega arith))
 
 returns-3 : tie.Need-returns-3
 returns-3 c vs =
     let s = c .before .before .args .tally in
-    by-number s vs (c .before .match .keys3) (parts s (tally 0 0 0 0 0 0 1) _ (omega arith) (omega arith) (omega arith) (omega arith) (omega arith) (omega arith) (omega arith))
+    by-number s vs (c .before .match .keys3)
+    (parts s (tally 0 0 0 0 0 0 1) _ (omega arith) (omega arith) (omega arith) (omega arith) (omega arith) (omega arith) (omega arith))
 
 returns-4 : tie.Need-returns-4
 returns-4 c vs = other-number (c .before .args .tally) vs (c .match .rest .0 .0 .1) (c .match .rest .0 .1) (c .match .rest .1)
