@@ -62,7 +62,7 @@ pub fn hear_many(channels: ChannelRecord, buf: &[u8], has_fecf: bool) -> ManyHea
                         SlotAnswer::Refused(refusal) => tally = passed(tally, refusal.number()),
                     }
                 } else {
-                    tally.not_open += 1;
+                    tally = passed(tally, 13);
                 }
                 place += frame.len_frame();
             }

@@ -1,7 +1,7 @@
 -- `hear_many` meets its contract. The loop's invariant: the hearings from the place on complete the whole.
 use mathlib.Core.Path.{_≡_, refl, ap, sym, _∙_, subst}
 use Prim.Native.Nat.{ℕ, _-_}
-use mathlib.Core.List.{List}
+use mathlib.Core.List.{List, []}
 use native.Mathlib.Omega.{arith}
 use mathlib.Core.Logic.{⊎-elim}
 use lib.ListN.{length, take, drop, getD}
@@ -25,9 +25,8 @@ use Rattle.uslp_record.specs.declared.ChannelRecord.{ChannelRecord}
 use Rattle.uslp_record.proofs.Seek.{long-of}
 use Rattle.uslp_record.proofs.Sums.{gapOf, slot-gap-fits}
 use Rattle.uslp_hearing.proofs.Ways.{channel, width, count}
-use Rattle.uslp_many.specs.Many.{tally, plus, tallyOf, Small}
+use Rattle.uslp_many.specs.Many.{plus, tallyOf, Small}
 use Rattle.uslp_many.specs.declared.Tally.{Tally}
-use Rattle.uslp_many.proofs.Tallies.{parts}
 use Rattle.uslp_many.proofs.Walk.{Stepped, stepped-none, stepped-done, stepped-refused, goes-refused, goes-all, Heard, heard-nothing, heard-small, heard-more}
 use borrow.Author.Needs.{needs}
 use Rattle.uslp_many.proofs.hear_many.Statement.{statement}
@@ -101,9 +100,6 @@ arrived-requires c κs =
       λ gap e. omega (arith, slot-gap-fits _ _ _ _ (judged k (c .before .arrival .given .1)), ap gapOf e),
     )
 
-add-tally : tie.Need-add-tally Inv-loop μ-loop
-add-tally c = record { fits = omega (arith, small (c .before .before) .«not_open») }
-
 -- the hearing of the frame's own octets takes tally and record to what they are where the ways meet
 abbrev Heard-there : tie.After-search Inv-loop μ-loop → Tally → ChannelRecord → Type 0
 Heard-there d u q =
@@ -123,6 +119,7 @@ found : (d : tie.After-search Inv-loop μ-loop) → d .search .result ≡ find (
 found d =
     d .search .ensures ∙ ap (λ (k : Channel). find k (loopOf (readOf (frameOf d)) .loop .next .slots)) (d .before .channel-of .ensures)
 
+-- the ways that meet: its slot takes the frame, or refuses it, or there is no slot
 stepped : (j : tie.Joined1 Inv-loop μ-loop) → Heard-there (j .before) (j .if1 .tally) (j .if1 .next)
 stepped j =
     let d = j .before in
@@ -155,8 +152,7 @@ stepped j =
     (λ w.
     subst (λ (u : Tally). Heard-there d u (j .if1 .next)) (sym (w .3))
     (subst (Heard-there d _) (sym (w .2))
-    (stepped-none fecf s (frame f) (own d) t _ r long (d .search .result) (found d) (omega arith)
-    (parts t (tally 0 0 0 0 1 0 0) _ (omega arith) (omega arith) (omega arith) (omega arith) (omega arith) (omega arith) (omega arith))))))
+    (stepped-none fecf s (frame f) (own d) t _ r long (d .search .result) (found d) (omega arith) (w .1 .ensures [])))))
     (j .if1 .came)
 
 loop-again : tie.Need-loop-again Inv-loop μ-loop
@@ -206,7 +202,7 @@ hear-many-spec =
     (λ c. search needs)
     (λ c κs. search needs)
     (λ c κs. small (c .before .before .before .before .before .before .before))
-    add-tally
+    (λ c κs. small (c .before))
     (λ c κs. search needs)
     add-place
     loop-less
