@@ -14,7 +14,7 @@ use Rattle.uslp_primary_header.specs.Header.{lenFrame}
 use Rattle.uslp_reader.specs.Reader.{frameReading}
 use Rattle.uslp_reader.specs.declared.TransferFrame.{TransferFrame}
 use Rattle.uslp_reader.proofs.EndToEnd.{frame-eight}
-use Rattle.uslp_roundtrip.proofs.Exactly.{own-octets}
+use Rattle.uslp_reader.proofs.Own.{own-octets}
 use Rattle.uslp_record.specs.Judging.{taken}
 use Rattle.uslp_record.specs.declared.ChannelRecord.{ChannelRecord}
 use Rattle.uslp_hearing.specs.Hearing.{judgedFrame, frameHearing}

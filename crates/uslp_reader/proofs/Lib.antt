@@ -2,3 +2,4 @@ pub mod Done
 pub mod Parts
 pub mod Paths
 pub mod EndToEnd
+pub mod Own

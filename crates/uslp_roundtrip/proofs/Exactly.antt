@@ -5,8 +5,7 @@ use mathlib.Core.Logic.{_↔_}
 use mathlib.Core.List.{List, _++_}
 use Prim.Native.Nat.{ℕ, _-_, _≤_}
 use native.Mathlib.Omega.{arith}
-use lib.ListN.{length, take, drop, length-take, take-append-drop}
-use lib.Seq.{take-all}
+use lib.ListN.{length, take, drop, take-append-drop}
 use Rattle.uslp_octets.specs.Octets.{AreOctets, word}
 use Rattle.uslp_checksum.specs.Checksum.{checksumOf}
 use Rattle.uslp_checksum.proofs.Laws.{residue}
@@ -18,11 +17,10 @@ use Rattle.uslp_data_field_header.specs.Field.{fieldReading}
 use Rattle.uslp_data_field_header.specs.declared.TransferFrameDataFieldHeader.{TransferFrameDataFieldHeader}
 use Rattle.uslp_layout.specs.Layout.{needed, layout}
 use Rattle.uslp_reader.specs.Reader.{frameWith, frameReading, contentsIn}
-use Rattle.uslp_reader.specs.declared.TransferFrame.{TransferFrame}
 use Rattle.uslp_reader.proofs.Done.{read-done, done-reads}
 use Rattle.uslp_roundtrip.specs.Laid.{frameOf, Laid}
 use Rattle.uslp_roundtrip.proofs.Complete.{complete, complete-contents}
-use Rattle.uslp_roundtrip.proofs.Sound.{laid, is-frame}
+use Rattle.uslp_roundtrip.proofs.Sound.{laid}
 
 module _ (s : List ℕ) (fecf : Bool) (h : PrimaryHeader) (f : TransferFrameDataFieldHeader) (contents : List ℕ) (ocf : OperationalControlField)
     (l : Laid s fecf h f contents ocf) where
@@ -45,18 +43,6 @@ exactly s fecf h f contents ocf oct = (
   λ e. subst (λ (d : List ℕ). Laid s fecf h f d ocf) (e .1) (laid s fecf (frameOf h f contents ocf) oct (e .0)),
   λ l. (laid-read s fecf h f contents ocf l, laid-contents s fecf h f contents ocf l),
 )
-
--- a frame that is read is read from its own octets alone too
-pub own-octets : (s : List ℕ) (fecf : Bool) (x : TransferFrame) → AreOctets s → frameReading s fecf ≡ done x
-    → frameReading (take (lenFrame (x .«primary_header»)) s) fecf ≡ done x
-own-octets s fecf x oct e =
-    let h = x .«primary_header» in
-    let n = lenFrame h in
-    let l = laid s fecf x oct e in
-    let long : length (take n s) ≤ n = omega (arith, length-take n s) in
-    laid-read (take n s) fecf h (x .«data_field_header») (contentsIn x s) (x .«operational_control_field»)
-    (record { spare = l .spare; spare-fits = l .spare-fits; well-formed = l .well-formed; begins = take-all n (take n s) long ∙ l .begins })
-    ∙ ap done (sym (is-frame s fecf x oct e))
 
 -- where both headers stand and the length holds them, a frame passes exactly if its last two octets are the checksum of those before
 module _ (s : List ℕ) (oct : AreOctets s) (h : PrimaryHeader) (f : TransferFrameDataFieldHeader)

@@ -15,7 +15,7 @@ use Rattle.uslp_reader.specs.declared.TransferFrame.{TransferFrame}
 use Rattle.uslp_reader.specs.declared.FrameAnswer.{FrameAnswer}
 use Rattle.uslp_reader.proofs.Parts.{rest-part}
 use Rattle.uslp_reader.proofs.EndToEnd.{frame-eight}
-use Rattle.uslp_roundtrip.proofs.Exactly.{own-octets}
+use Rattle.uslp_reader.proofs.Own.{own-octets}
 use Rattle.uslp_record.specs.Slots.{find, slotOf}
 use Rattle.uslp_record.specs.Judging.{paperSlot, slotJudging}
 use Rattle.uslp_record.specs.declared.SlotState.the-variants.{Closed}
