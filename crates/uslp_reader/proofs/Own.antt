@@ -78,7 +78,8 @@ module _ (s : List ℕ) (fecf : Bool) (x : TransferFrame) (oct : AreOctets s) (e
         «data_len» = lenFrame h - needed h f fecf;
       }
     where
-      ocf : ocfAt (h .«ocf_flag») (dataStart h f + (lenFrame h - needed h f fecf)) s ≡ ocfAt (h .«ocf_flag») (dataStart h f + (lenFrame h - needed h f fecf)) own
+      ocf : ocfAt (h .«ocf_flag») (dataStart h f + (lenFrame h - needed h f fecf)) s
+          ≡ ocfAt (h .«ocf_flag») (dataStart h f + (lenFrame h - needed h f fecf)) own
       ocf = ocf-same (h .«ocf_flag») (dataStart h f + (lenFrame h - needed h f fecf)) (lenFrame h) s (omega (arith, r .room))
 
   pub own-octets : frameReading own fecf ≡ done x
