@@ -11,7 +11,7 @@ use lib.Pow.{pow-add, pow-pos, mod-pow-add, high, low}
 use lib.Arith.{digits-lt}
 use lib.Dec.{lit<}
 use lib.ListN.{length, take, drop, getD, set, length-take, length-drop, List·getD-append, List·getD-eq-default}
-use lib.Seq.{getD-append-add, getD-drop, getD-take, take-suc, append-snoc, set-at, length-take-le, take-length}
+use lib.Seq.{getD-append-add, getD-drop, getD-take, take-suc, append-snoc, set-at, length-take-le, take-length, take-at}
 use Rattle.uslp_octets.specs.Octets.{AreOctets, Field, bitsIn, valueOf, Fits, split, octets, pack, unpack, word}
 
 pub pow-eight : (w : ℕ) → 2 ^ (8 * w) ≡ 256 ^ w
@@ -193,6 +193,19 @@ are-take n s oct i =
 pub are-drop : (n : ℕ) (s : List ℕ) → AreOctets s → AreOctets (drop n s)
 are-drop n s oct i = subst (λ (x : ℕ). x < 256) (sym (getD-drop n s i 0)) (oct (n + i))
 
+pub are-append : (s t : List ℕ) → AreOctets s → AreOctets t → AreOctets (s ++ t)
+are-append s t p q i =
+    elim (decLt i (length s)) [
+      | yes h ↦ subst (λ (x : ℕ). x < 256) (sym (List·getD-append s t 0 i h)) (p i)
+      | no h ↦
+          let k : length s + (i - length s) ≡ i = omega arith in
+          subst (λ (x : ℕ). x < 256) (sym (ap (λ (j : ℕ). getD (s ++ t) j 0) (sym k) ∙ getD-append-add s t (i - length s) 0)) (q (i - length s))
+    ]
+
+-- and so is what octets are a front of, without what stands behind it
+pub are-front : (s t : List ℕ) → AreOctets (s ++ t) → AreOctets s
+are-front s t oct = subst AreOctets (take-at s t (length s) refl) (are-take (length s) (s ++ t) oct)
+
 -- a word of a part of the octets stands in the whole of them
 pub word-drop : (i j n : ℕ) (s : List ℕ) → word j n (drop i s) ≡ word (i + j) n s
 word-drop i j zero s = refl
@@ -201,6 +214,14 @@ word-drop i j (suc n) s = rw (word-drop i j n s, getD-drop, add-assoc)
 pub word-take : (i n k : ℕ) (s : List ℕ) → i + n ≤ k → word i n (take k s) ≡ word i n s
 word-take i zero k s h = refl
 word-take i (suc n) k s h = rw (word-take i n k s (omega arith), getD-take k s (i + n) 0 (omega arith))
+
+-- what stands at the front of octets stands there with others behind
+pub word-front : (s t : List ℕ) (i n : ℕ) → i + n ≤ length s → word i n (s ++ t) ≡ word i n s
+word-front s t i zero h = refl
+word-front s t i (suc n) h = rw (word-front s t i n (omega arith), List·getD-append s t 0 (i + n) (omega arith))
+
+pub unpack-front : (fs : List Field) (s t : List ℕ) → bitsIn fs / 8 ≤ length s → unpack fs (s ++ t) ≡ unpack fs s
+unpack-front fs s t h = ap (split fs) (word-front s t 0 (bitsIn fs / 8) (omega arith))
 
 -- the word of a part, as a range cuts it
 pub word-part : (i w : ℕ) (s : List ℕ) → i + w ≤ length s → word 0 (length (take (i + w - i) (drop i s))) (take (i + w - i) (drop i s)) ≡ word i w s
