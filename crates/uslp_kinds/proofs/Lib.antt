@@ -4,3 +4,4 @@ pub mod Cases
 pub mod Outcomes
 pub mod Firsts
 pub mod Protocol
+pub mod Behind

@@ -1,6 +1,9 @@
 -- The table of refusals (docs/RULES.md, section 2), row by row, and what each answer that carries nothing, a number or an id says on paper.
-use Prim.Native.Nat.{ℕ}
+use Prim.Native.Nat.{ℕ, _-_}
+use mathlib.Core.Bool.{Bool, false, cond}
 use mathlib.Core.List.{List, [], _∷_}
+use lib.Dec.{eqb}
+use lib.ListN.{getD}
 use Rattle.uslp_kinds.specs.Outcome.{Outcome, done, refused}
 use Rattle.uslp_kinds.specs.Kinds.{ruleNumber}
 use Rattle.uslp_kinds.specs.declared.UslpProtocolId.{UslpProtocolId}
@@ -57,6 +60,18 @@ carried BadForm = []
 -- a refusal as the outcome of a call for any result
 abbrev pub refusal : {A : Type 0} → Refusal → Outcome A
 refusal r = refused (refusalNumber r) (carried r)
+
+-- SHORT_SOURCE, and how many octets it lacks: expected less found, wherever the two count from; any other answer lacks none
+abbrev pub short : {A : Type 0} → Outcome A → Bool
+short (done x) = false
+short (refused k vs) = eqb k 1
+
+abbrev pub lacking : {A : Type 0} → Outcome A → ℕ
+lacking (done x) = 0
+lacking (refused k vs) = cond (eqb k 1) (getD vs 1 0 - getD vs 0 0) 0
+
+abbrev pub lackingOf : Refusal → ℕ
+lackingOf r = lacking {A = Unit {0}} (refusal r)
 
 abbrev pub paperDone : DoneAnswer → Outcome (Unit {0})
 paperDone done-answer.Done = done tt

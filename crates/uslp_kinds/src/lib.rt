@@ -1,7 +1,7 @@
 // The refusals of the library, the kinds of field that a frame carries, and the answers that carry nothing, a number or an id.
 ghost use mathlib.Core.Path.{_≡_};
 ghost use Rattle.uslp_kinds.specs.Kinds.{sourceOrDestNumber, sourceOrDestOf, bypassNumber, bypassOf, commandNumber, commandOf, ruleNumber, ruleOf, fixedLength, protocolNumber, protocolOf};
-ghost use Rattle.uslp_kinds.specs.Answers.{refusalNumber, paperProtocol};
+ghost use Rattle.uslp_kinds.specs.Answers.{refusalNumber, lackingOf, paperProtocol};
 
 // The largest values of the fields that a number can be too large for, and the most octets of a frame.
 pub const MAX_VC_ID: u8 = 63;
@@ -141,6 +141,22 @@ impl Refusal {
             Refusal::TableFull => 16,
             Refusal::TotalFull => 17,
             Refusal::BadForm => 18,
+        }
+    }
+
+    // How many octets SHORT_SOURCE lacks; any other refusal lacks none.
+    pub fn lacking(self) -> usize
+        ensures { λ r. ⌜ r ≡ lackingOf self ⌝ }
+    {
+        match self {
+            Refusal::ShortSource { found, expected } => {
+                if expected < found {
+                    0
+                } else {
+                    expected - found
+                }
+            }
+            _ => 0,
         }
     }
 }
