@@ -2,3 +2,4 @@ pub mod Checks
 pub mod Reading
 pub mod Writing
 pub mod RoundTrip
+pub mod Behind

@@ -4,3 +4,4 @@ pub mod ReadPaths
 pub mod RoundTrip
 pub mod Rows
 pub mod WritePaths
+pub mod Behind

@@ -18,7 +18,7 @@ module _ (s : List ℕ) (oct : AreOctets s) (n : ℕ) (e : n ≡ word 0 7 s) whe
   reading-is = sym (ap (λ (k : ℕ). readingOf (split format k) s) e)
 
   -- the fourth octet alone tells it
-  truncated-at : named "truncated" (split format n) ≡ getD s 3 0 % 2
+  pub truncated-at : named "truncated" (split format n) ≡ getD s 3 0 % 2
   truncated-at = omega (arith, oct 0, oct 1, oct 2, oct 3, oct 4, oct 5, oct 6)
 
   pub reading-short : length s < 4 → headerReading s ≡ refused 1 (length s ∷ 4 ∷ [])

@@ -62,7 +62,7 @@ tests rows s =
     ∷ (ltb (length s) (7 + named "count width" rows), 1, length s ∷ (7 + named "count width" rows) ∷ [])
     ∷ []
 
-abbrev headerIn : List ℕ → PrimaryHeader
+abbrev pub headerIn : List ℕ → PrimaryHeader
 headerIn s = headerOf (rowsIn s) (word 7 (named "count width" (rowsIn s)) s)
 
 -- its refusals are 1, 3 and 4
@@ -76,6 +76,9 @@ module _ (s : List ℕ) (h : PrimaryHeader) (e : headerReading s ≡ done h) whe
   read-passed : Passing (tests (rowsIn s) s) × (headerIn s ≡ h)
   unfolding headerReading
   read-passed = first-done (tests (rowsIn s) s) e
+
+  pub read-in : headerIn s ≡ h
+  read-in = read-passed .1
 
   pub read-long : lenHeader h ≤ length s
   read-long = rw (sym (read-passed .1)) (ltb-false (length s) (lenHeader (headerIn s)) (read-passed .0 4))

@@ -3,3 +3,5 @@ pub mod Parts
 pub mod Paths
 pub mod EndToEnd
 pub mod Own
+pub mod Behind
+pub mod Asks
