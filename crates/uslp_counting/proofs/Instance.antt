@@ -2,13 +2,16 @@
 use mathlib.Core.Path.{_≡_, refl, ap, _∙_}
 use mathlib.Core.Bool.{false}
 use mathlib.Core.List.{List, [], _∷_, _++_, map}
-use Prim.Native.Nat.{ℕ, _-_, _<_, _≤_}
+use Prim.Native.Nat.{ℕ, _-_, _/_, _<_, _≤_}
 use native.Mathlib.Omega.{arith}
 use borrow.Author.Tests.{lt-ltb}
+use lib.Dec.{lit<}
 use lib.ListN.{length}
+use Rattle.uslp_octets.specs.Octets.{AreOctets, bitsIn, valueOf, pack}
+use Rattle.uslp_octets.proofs.Laws.{are-append, are-number}
 use Rattle.uslp_kinds.specs.Outcome.{done}
-use Rattle.uslp_primary_header.specs.Header.{headerReading}
-use Rattle.uslp_data_field_header.specs.Field.{fieldReading}
+use Rattle.uslp_primary_header.specs.Header.{table, headerReading}
+use Rattle.uslp_data_field_header.specs.Field.{fieldTable, fieldReading}
 use Rattle.uslp_reader.specs.Reader.{frameReading}
 use Rattle.uslp_reader.specs.EndToEnd.{cutUpTo}
 use Rattle.uslp_record.specs.Slots.{find, vacant, put, emptyRecord}
@@ -27,10 +30,19 @@ use Rattle.uslp_counting.proofs.Called.{many-called}
 use Rattle.uslp_counting.proofs.Lost.{lost-more, lost-one}
 use Rattle.uslp_counting.proofs.Theorem.{counted}
 use Rattle.uslp_counting.proofs.Room.{unfilled}
-use Rattle.uslp_counting.proofs.Witness.{craft, oven}
+use Rattle.uslp_counting.proofs.Witness.{craft, reading, whole, are-octets, headerAt, oven}
 
 abbrev pub sender : Sender craft 1 false
 sender = oven 1 (omega arith) false
+
+-- its frames are octets
+pub are-sent : (p : ℕ) → AreOctets (frameAt sender p)
+unfolding oven
+are-sent p =
+    let h = table 0 (headerAt 1 (omega arith) false p) in
+    let f = fieldTable whole in
+    are-append (pack h) (pack f ++ (reading ++ [])) (are-number (bitsIn h / 8) (valueOf h))
+    (are-append (pack f) (reading ++ []) (are-number (bitsIn f / 8) (valueOf f)) (are-append reading [] are-octets (λ i. lit< tt)))
 
 -- the record once the channel is open
 abbrev pub begun : ChannelRecord
@@ -76,7 +88,7 @@ frames = frameAt sender 0 ++ frameAt sender 2
 abbrev pub together : List Call
 together = hears-many frames false ∷ []
 
-stands : singly together ≡ calls 0 2
+pub stands : singly together ≡ calls 0 2
 unfolding oven cutUpTo frameReading headerReading fieldReading
 stands = refl
 

@@ -16,3 +16,4 @@ pub mod Witness
 pub mod Instance
 pub mod Restarted
 pub mod Wrong
+pub mod Blocks

@@ -1,16 +1,14 @@
 -- What a run over restarts asks can be met: the oven's place 0 arrives, the console is saved and restored, place 2 arrives, and one is missing.
 use mathlib.Core.Path.{_≡_, refl, sym, _∙_, ap, subst}
 use mathlib.Core.Bool.{false}
-use mathlib.Core.List.{List, [], _∷_, _++_}
-use Prim.Native.Nat.{ℕ, zero, suc, _/_, _^_}
+use mathlib.Core.List.{[], _∷_, _++_}
 use native.Mathlib.Omega.{arith}
-use native.Mathlib.Nat.{mod-lt}
 use lib.Dec.{lit<}
 use lib.ListN.{replicate}
-use Rattle.uslp_octets.specs.Octets.{AreOctets, octets, bitsIn, valueOf, pack}
+use Rattle.uslp_octets.proofs.Laws.{are-append}
 use Rattle.uslp_kinds.proofs.Outcomes.{not-done}
-use Rattle.uslp_primary_header.specs.Header.{table, headerReading}
-use Rattle.uslp_data_field_header.specs.Field.{fieldTable, fieldReading}
+use Rattle.uslp_primary_header.specs.Header.{headerReading}
+use Rattle.uslp_data_field_header.specs.Field.{fieldReading}
 use Rattle.uslp_reader.specs.Reader.{frameReading}
 use Rattle.uslp_record.specs.Slots.{find, emptyRecord}
 use Rattle.uslp_record.specs.Judging.{judging}
@@ -27,8 +25,8 @@ use Rattle.uslp_counting.specs.Restarts.Leads.{ends, next, restart}
 use Rattle.uslp_counting.specs.Restarts.Called.{new, opens, hears}
 use Rattle.uslp_counting.proofs.Theorem.{counted-over}
 use Rattle.uslp_counting.proofs.Called.{made-called, called-back, restarts-called}
-use Rattle.uslp_counting.proofs.Witness.{craft, reading, are-octets, whole, headerAt, oven}
-use Rattle.uslp_counting.proofs.Instance.{sender, begun, begins, two, near, lost-two}
+use Rattle.uslp_counting.proofs.Witness.{craft, oven}
+use Rattle.uslp_counting.proofs.Instance.{sender, are-sent, begun, begins, two, near, lost-two}
 
 -- after place 0, then after the restart, then after place 2
 abbrev pub heard : ChannelRecord
@@ -40,29 +38,9 @@ back = restored (entriesOf one heard)
 abbrev pub after : ChannelRecord
 after = called frameHearing craft back (callOf sender (arrives 2 [])) .1
 
--- the frame at place 0 is octets
-are-number : (k n : ℕ) → AreOctets (octets k n)
-are-number zero n i = lit< tt
-are-number (suc k) n zero = mod-lt (n / 256 ^ k) (lit< tt)
-are-number (suc k) n (suc i) = are-number k n i
-
-are-append : (s t : List ℕ) → AreOctets s → AreOctets t → AreOctets (s ++ t)
-are-append [] t a b i = b i
-are-append (x ∷ s) t a b zero = a 0
-are-append (x ∷ s) t a b (suc i) = are-append s t (λ j. a (suc j)) b i
-
-are-sent : AreOctets (frameAt sender 0 ++ [])
-unfolding oven
-are-sent =
-    let h = table 0 (headerAt 1 (omega arith) false 0) in
-    let f = fieldTable whole in
-    are-append (frameAt sender 0) []
-    (are-append (pack h) (pack f ++ (reading ++ [])) (are-number (bitsIn h / 8) (valueOf h))
-    (are-append (pack f) (reading ++ []) (are-number (bitsIn f / 8) (valueOf f)) (are-append reading [] are-octets (λ i. lit< tt))))
-    (λ i. lit< tt)
-
 pub called-heard : Called heard
-called-heard = hears (frameAt sender 0 ++ []) false are-sent (subst Called (ap recordOf begins) (opens craft 1 (lit< tt) new))
+called-heard =
+    hears (frameAt sender 0 ++ []) false (are-append (frameAt sender 0) [] (are-sent 0) (λ i. lit< tt)) (subst Called (ap recordOf begins) (opens craft 1 (lit< tt) new))
 
 -- saved into 354 octets, and restored where no channel is open
 pub restarts : Restart heard back

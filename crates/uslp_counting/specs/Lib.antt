@@ -3,3 +3,4 @@ pub mod History
 pub mod Demand
 pub mod Console
 pub mod Restarts
+pub mod Blocks

@@ -10,18 +10,17 @@ use lib.Dec.{eqb, lit<}
 use lib.ListN.{length, take, drop, length-append, length-drop, take-append-drop}
 use lib.Seq.{length-take-le, take-length, drop-at}
 use Rattle.uslp_octets.specs.Octets.{AreOctets}
-use Rattle.uslp_octets.proofs.Laws.{are-append, are-front, are-take, are-drop}
-use Rattle.uslp_kinds.specs.Outcome.{Outcome, done, refused, Written, leaving}
+use Rattle.uslp_octets.proofs.Laws.{are-append, are-front, are-drop}
+use Rattle.uslp_kinds.specs.Outcome.{Outcome, done, refused, leaving}
 use Rattle.uslp_kinds.specs.Answers.{short}
-use Rattle.uslp_primary_header.specs.Header.{lenFrame, headerReading}
+use Rattle.uslp_primary_header.specs.Header.{headerReading}
 use Rattle.uslp_reader.specs.Reader.{frameReading}
-use Rattle.uslp_reader.specs.EndToEnd.{cut}
 use Rattle.uslp_reader.specs.declared.TransferFrame.{TransferFrame}
 use Rattle.uslp_reader.proofs.Behind.{reading-stays}
-use Rattle.uslp_intake.specs.Intake.{Intake, waiting, frame, stopped, taking, gathered, deciding, intaking}
+use Rattle.uslp_intake.specs.Intake.{waiting, stopped, taking, gathered, deciding}
 use Rattle.uslp_intake.proofs.Taking.{taking-le}
 use Rattle.uslp_intake.proofs.Steps.{intaking-done}
-use Rattle.uslp_cutting.specs.Offering.{waits, stops, Passage, after, behind, Call, Promised, Offered, joined, Waiting, passage}
+use Rattle.uslp_cutting.specs.Offering.{Passage, after, behind, Call, Promised, Offered, joined, Waiting, passage}
 use Rattle.uslp_cutting.specs.Offering.Offered.{no-more, waits-on, gives-out, stops-at, is-refused}
 use Rattle.uslp_cutting.proofs.Calls.{called, not-refused, of-waiting, of-frame, of-stopped, stays-long, stands, gathered-long, some-taken, wait-takes, wait-waits, frame-whole}
 use Rattle.uslp_cutting.proofs.Passages.{passage-eq, taking-all-short, taking-past, passage-waits, passage-stops, passage-frame}

@@ -2,9 +2,9 @@
 use mathlib.Core.Path.{_≡_, refl, ap, ap₂, sym, _∙_, subst}
 use mathlib.Core.Bool.{Bool, true, false, cond, false≢true}
 use mathlib.Core.List.{List, [], _∷_, _++_, append-assoc, append-nil}
-use Prim.Native.Nat.{ℕ, suc, _+_, _-_, _≤_}
+use Prim.Native.Nat.{ℕ, suc, _+_, _-_}
 use native.Mathlib.Omega.{arith}
-use native.Mathlib.Nat.{zero-add, add-assoc, add-zero}
+use native.Mathlib.Nat.{zero-add, add-zero}
 use lib.Dec.{eqb}
 use lib.ListN.{length, take, drop, length-append}
 use lib.Seq.{take-at, drop-at, take-length}
@@ -15,11 +15,11 @@ use Rattle.uslp_primary_header.specs.Header.{lenFrame}
 use Rattle.uslp_reader.specs.Reader.{frameReading}
 use Rattle.uslp_reader.specs.EndToEnd.{Cut, cut}
 use Rattle.uslp_reader.specs.declared.TransferFrame.{TransferFrame}
-use Rattle.uslp_reader.proofs.EndToEnd.{cut-refused, cut-more, rest-short, onto, nothing}
+use Rattle.uslp_reader.proofs.EndToEnd.{cut-refused, cut-more, rest-short}
 use Rattle.uslp_reader.proofs.Behind.{reading-before}
 use Rattle.uslp_intake.specs.Intake.{taking, gathered}
 use Rattle.uslp_intake.proofs.Taking.{by-test, taking-none, taking-one, taking-nil}
-use Rattle.uslp_cutting.specs.Offering.{Ending, waits, stops, Passage, ended, after, behind, endingOf, passage}
+use Rattle.uslp_cutting.specs.Offering.{waits, stops, Passage, ended, after, behind, endingOf, passage}
 
 pub passage-eq : {p q : Passage} → p .frames ≡ q .frames → p .place ≡ q .place → p .ending ≡ q .ending → p .held ≡ q .held → p ≡ q
 passage-eq a b c d = λ i. record { frames = a i; place = b i; ending = c i; held = d i }

@@ -1,16 +1,15 @@
 -- Reading a header when octets are added behind, and which octets SHORT_SOURCE lacks.
 use mathlib.Core.Path.{_≡_, refl, ap}
 use mathlib.Core.Bool.{Bool, true, false, cond, _&&_, false≢true}
-use mathlib.Core.List.{List, [], _∷_, _++_}
+use mathlib.Core.List.{List, _++_}
 use Prim.Native.Nat.{ℕ, _+_, _-_, _<_, _≤_}
-use native.Mathlib.Omega.{arith}
 use borrow.Author.Tests.{ltb-true, ltb-false}
 use lib.Dec.{eqb, ltb}
 use lib.ListN.{length}
-use Rattle.uslp_octets.specs.Octets.{word, named}
+use Rattle.uslp_octets.specs.Octets.{named}
 use Rattle.uslp_octets.specs.Octets as octets
 use Rattle.uslp_octets.proofs.Laws.{word-front, unpack-front}
-use Rattle.uslp_kinds.specs.Kinds.{ruleOf, fixedLength, protocolOf}
+use Rattle.uslp_kinds.specs.Kinds.{ruleOf, fixedLength}
 use Rattle.uslp_kinds.specs.Answers.{short}
 use Rattle.uslp_kinds.specs.declared.ConstructionRule.{ConstructionRule}
 use Rattle.uslp_kinds.specs.declared.ConstructionRule.the-variants.{NoSegmentation}

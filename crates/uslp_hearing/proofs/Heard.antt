@@ -1,18 +1,18 @@
 -- What judging and hearing a frame say, path by path; and the ways back from paper.
-use mathlib.Core.Path.{_≡_, refl, ap, _∙_}
+use mathlib.Core.Path.{_≡_, refl, ap, sym, _∙_}
 use mathlib.Core.Bool.{Bool}
 use mathlib.Core.List.{List}
 use Prim.Native.Nat.{ℕ}
-use Rattle.uslp_kinds.specs.Outcome.{Outcome, andThen}
+use Rattle.uslp_kinds.specs.Outcome.{Outcome, done, andThen}
 use Rattle.uslp_kinds.proofs.Back.{back, refusal-back}
 use Rattle.uslp_reader.specs.Reader.{frameReading}
 use Rattle.uslp_reader.specs.declared.TransferFrame.{TransferFrame}
-use Rattle.uslp_record.specs.Judging.{judging}
+use Rattle.uslp_record.specs.Judging.{judging, taken}
 use Rattle.uslp_record.specs.declared.Channel.{Channel}
 use Rattle.uslp_record.specs.declared.Change.{Change}
 use Rattle.uslp_record.specs.declared.ChannelRecord.{ChannelRecord}
 use Rattle.uslp_record.specs.declared.Arrival.{Arrival}
-use Rattle.uslp_hearing.specs.Hearing.{paperHear, paperJudge, channelOf, withFrame, judgedFrame, frameJudging}
+use Rattle.uslp_hearing.specs.Hearing.{paperHear, paperJudge, channelOf, withFrame, judgedFrame, frameJudging, frameHearing}
 use Rattle.uslp_hearing.specs.declared.FrameArrival.{FrameArrival}
 use Rattle.uslp_hearing.specs.declared.HearAnswer.{HearAnswer}
 use Rattle.uslp_hearing.specs.declared.HearAnswer.the-variants as hear-answer
@@ -31,6 +31,11 @@ judged-by r x k is e =
 pub read-by : (r : ChannelRecord) (s : List ℕ) (fecf : Bool) {o : Outcome TransferFrame} → o ≡ frameReading s fecf
     → andThen o (judgedFrame r) ≡ frameJudging r s fecf
 read-by r s fecf e = ap (λ (o : Outcome TransferFrame). andThen o (judgedFrame r)) e
+
+-- hearing a frame that was read from octets is hearing them
+pub frame-heard : (r : ChannelRecord) (s : List ℕ) (fecf : Bool) {x : TransferFrame} → frameReading s fecf ≡ done x
+    → taken r (judgedFrame r x) ≡ frameHearing r s fecf
+frame-heard r s fecf e = ap (taken r) (read-by r s fecf (sym e))
 
 pub hear-back : (r : HearAnswer) → back hear-answer.Done hear-answer.Refused (paperHear r) ≡ r
 hear-back (hear-answer.Done a) = refl

@@ -11,6 +11,7 @@ use uslp_record::CountAnswer;
 ghost use mathlib.Core.Path.{_≡_};
 ghost use Rattle.uslp_octets.specs.Octets.{PartOf};
 ghost use Rattle.uslp_record.specs.Record.{keeping};
+ghost use Rattle.uslp_record.specs.Judging.{taken};
 ghost use Rattle.uslp_hearing.specs.Hearing.{channelOf, paperHear, paperJudge, frameArrival, judgedFrame, frameJudging, frameHearing, handedOn, handedAt};
 
 // What hearing a frame finds: NEW, with the frame and how many are missing before it, or nothing to hand on.
@@ -44,19 +45,17 @@ pub enum JudgeAnswer {
 pub fn hear(channels: ChannelRecord, buf: &[u8], has_fecf: bool) -> Hearing
     ensures { λ r. ⌜ keeping (paperHear (r .answer)) (r .next) ≡ frameHearing channels (now (buf .entry)) «has_fecf» ⌝ }
 {
-    match judge(channels, buf, has_fecf) {
-        JudgeAnswer::Done { arrival, change } => Hearing {
-            answer: HearAnswer::Done(arrival),
-            next: channels.with_change(change),
-        },
-        JudgeAnswer::Refused(refusal) => Hearing {
-            answer: HearAnswer::Refused(refusal),
-            next: channels,
-        },
-    }
+    take_over(channels, judge(channels, buf, has_fecf))
 }
 
-// The same, but the record is only read: whoever holds it takes the change over, by `with_change`.
+// The same of a frame that was read already, so that it is not read twice: NOT_OPEN, OTHER_WIDTH, TOTAL_FULL.
+pub fn hear_frame(channels: ChannelRecord, frame: TransferFrame) -> Hearing
+    ensures { λ r. ⌜ keeping (paperHear (r .answer)) (r .next) ≡ taken channels (judgedFrame channels frame) ⌝ }
+{
+    take_over(channels, judge_frame(channels, frame))
+}
+
+// What hearing would answer, but the record is only read: whoever holds it takes the change over, by `with_change`.
 pub fn judge(channels: ChannelRecord, buf: &[u8], has_fecf: bool) -> JudgeAnswer
     ensures { λ r. ⌜ paperJudge r ≡ frameJudging channels (now (buf .entry)) «has_fecf» ⌝ }
 {
@@ -87,6 +86,21 @@ pub fn channel_of(header: PrimaryHeader) -> Channel
     Channel {
         spacecraft_id: header.spacecraft_id,
         vc_id: header.vc_id,
+    }
+}
+
+fn take_over(channels: ChannelRecord, judged: JudgeAnswer) -> Hearing
+    ensures { λ r. ⌜ keeping (paperHear (r .answer)) (r .next) ≡ taken channels (paperJudge judged) ⌝ }
+{
+    match judged {
+        JudgeAnswer::Done { arrival, change } => Hearing {
+            answer: HearAnswer::Done(arrival),
+            next: channels.with_change(change),
+        },
+        JudgeAnswer::Refused(refusal) => Hearing {
+            answer: HearAnswer::Refused(refusal),
+            next: channels,
+        },
     }
 }
 

@@ -194,13 +194,15 @@ pub are-drop : (n : ℕ) (s : List ℕ) → AreOctets s → AreOctets (drop n s)
 are-drop n s oct i = subst (λ (x : ℕ). x < 256) (sym (getD-drop n s i 0)) (oct (n + i))
 
 pub are-append : (s t : List ℕ) → AreOctets s → AreOctets t → AreOctets (s ++ t)
-are-append s t p q i =
-    elim (decLt i (length s)) [
-      | yes h ↦ subst (λ (x : ℕ). x < 256) (sym (List·getD-append s t 0 i h)) (p i)
-      | no h ↦
-          let k : length s + (i - length s) ≡ i = omega arith in
-          subst (λ (x : ℕ). x < 256) (sym (ap (λ (j : ℕ). getD (s ++ t) j 0) (sym k) ∙ getD-append-add s t (i - length s) 0)) (q (i - length s))
-    ]
+are-append [] t a b i = b i
+are-append (x ∷ s) t a b zero = a 0
+are-append (x ∷ s) t a b (suc i) = are-append s t (λ j. a (suc j)) b i
+
+-- the octets of a number are octets
+pub are-number : (k n : ℕ) → AreOctets (octets k n)
+are-number zero n i = lit< tt
+are-number (suc k) n zero = mod-lt (n / 256 ^ k) (lit< tt)
+are-number (suc k) n (suc i) = are-number k n i
 
 -- and so is what octets are a front of, without what stands behind it
 pub are-front : (s t : List ℕ) → AreOctets (s ++ t) → AreOctets s

@@ -9,7 +9,7 @@ use borrow.Author.Tests.{ltb-false, le-leb}
 use lib.ListN.{length, take, drop, length-append, length-drop}
 use lib.Seq.{drop-append-le, take-append-le}
 use lib.Dec.{eqb}
-use Rattle.uslp_octets.specs.Octets.{AreOctets, word}
+use Rattle.uslp_octets.specs.Octets.{AreOctets}
 use Rattle.uslp_octets.proofs.Laws.{word-front}
 use Rattle.uslp_checksum.specs.Checksum.{checksumOf}
 use Rattle.uslp_kinds.specs.Outcome.{Outcome, done, refused}

@@ -15,11 +15,6 @@ use Rattle.uslp_intake.proofs.Steps.{Taken, taken-none, taken-long, tak
 use borrow.Author.Needs.{needs}
 use Rattle.uslp_intake.proofs.take_wanted.Statement.{statement}
 use Rattle.uslp_intake.proofs.take_wanted.Tie as tie
-use Rattle.uslp_intake.proofs.take_wanted.Reads as reads
-use Rattle.uslp_intake.proofs.take_wanted.Lts as lts
-use Rattle.uslp_intake.proofs.hold.Reads as hold-reads
-use Rattle.uslp_kinds.proofs.Refusal.lacking.Reads as lacking-reads
-use Rattle.uslp_reader.proofs.TransferFrame.from_bytes.Reads as from-bytes-reads
 
 abbrev Inv-loop : tie.InvT-loop
 Inv-loop holding₀ held block has-fecf taken₀ holding taken = Taken has-fecf holding₀ held block taken holding

@@ -1,0 +1,71 @@
+-- Octets that came in blocks: hearing each frame as the intake gives it out stands for the call for many frames of all the octets, so demand 3
+-- holds of it.
+use mathlib.Core.Path.{_≡_, refl, ap, sym, _∙_, subst}
+use mathlib.Core.Bool.{Bool, false}
+use mathlib.Core.List.{List, [], _∷_, _++_, map, append-assoc, append-nil}
+use Prim.Native.Nat.{ℕ, _+_, _≤_}
+use lib.ListN.{length, take}
+use Rattle.uslp_octets.specs.Octets.{AreOctets}
+use Rattle.uslp_octets.proofs.Laws.{are-append}
+use Rattle.uslp_kinds.specs.Outcome.{done, leaving}
+use Rattle.uslp_reader.specs.declared.TransferFrame.{TransferFrame}
+use Rattle.uslp_intake.specs.Intake.{frame, intaking}
+use Rattle.uslp_cutting.specs.Offering.{Passage, Promised, Offered, joined, Waiting}
+use Rattle.uslp_cutting.specs.Offering as intake
+use Rattle.uslp_cutting.proofs.Calls.{frame-whole}
+use Rattle.uslp_cutting.proofs.Cutting.{from-nothing}
+use Rattle.uslp_record.specs.Judging.{taken}
+use Rattle.uslp_record.specs.declared.ChannelRecord.{ChannelRecord}
+use Rattle.uslp_hearing.specs.Hearing.{judgedFrame, frameHearing}
+use Rattle.uslp_hearing.proofs.Heard.{frame-heard}
+use Rattle.uslp_counting.specs.History.{Hearer, Call, run, handed, standsFor, singly, missingFor, frameAt, handingAt}
+use Rattle.uslp_counting.specs.History.Call.{hears, hears-many}
+use Rattle.uslp_counting.specs.Demand.{Demand3}
+use Rattle.uslp_counting.specs.Blocks.{asTheyCome, Demand3InBlocks}
+use Rattle.uslp_counting.proofs.Instance.{sender, are-sent, begun, calls, frames, stands, one-missing}
+use Rattle.uslp_counting.proofs.Witness.{craft}
+
+-- the frame that a call gives out, heard as it was read, is the hearing of the octets at the front of the holding buffer
+pub as-it-comes : (r : ChannelRecord) (fecf : Bool) (s : List ℕ) (held : ℕ) (block t : List ℕ) {n : ℕ} {x : TransferFrame} → Waiting fecf s held → AreOctets block
+    → intaking fecf s held block ≡ leaving (done (frame n x)) t → taken r (judgedFrame r x) ≡ frameHearing r (take (held + n) t) fecf
+as-it-comes r fecf s held block t {n} w oct e = frame-heard r (take (held + n) t) fecf (frame-whole fecf s held block t w oct e .1)
+
+singly-append : (cs ds : List Call) → singly (cs ++ ds) ≡ singly cs ++ singly ds
+singly-append [] ds = refl
+singly-append (c ∷ cs) ds = ap (λ (l : List Call). standsFor c ++ l) (singly-append cs ds) ∙ sym (append-assoc (standsFor c) (singly cs) (singly ds))
+
+-- hearings of single frames stand for themselves
+singly-hears : (fecf : Bool) (fs : List (TransferFrame × List ℕ))
+    → singly (map (λ (f : TransferFrame × List ℕ). hears (f .1) fecf) fs) ≡ map (λ (f : TransferFrame × List ℕ). hears (f .1) fecf) fs
+singly-hears fecf [] = refl
+singly-hears fecf (f ∷ fs) = ap (λ (l : List Call). hears (f .1) fecf ∷ l) (singly-hears fecf fs)
+
+module _ (call : intake.Call) (promised : Promised call) (fecf : Bool) (holding : List ℕ) (room : 65536 ≤ length holding) (blocks : List (List ℕ)) (p : Passage)
+    (oct : AreOctets (joined blocks)) (o : Offered call fecf holding 0 blocks p) where
+  -- the frames are those of the octets in one piece
+  pub stands-for-many : asTheyCome fecf p ≡ standsFor (hears-many (joined blocks) fecf)
+  stands-for-many = ap (asTheyCome fecf) (from-nothing call promised fecf holding room blocks p oct .0 o)
+
+  -- among other calls too
+  pub among-calls : (before after : List Call) → singly (before ++ (asTheyCome fecf p ++ after)) ≡ singly (before ++ (hears-many (joined blocks) fecf ∷ after))
+  among-calls before after =
+      let h = asTheyCome fecf p in
+      singly-append before (h ++ after)
+      ∙ ap (λ (l : List Call). singly before ++ l) (singly-append h after ∙ ap (λ (l : List Call). l ++ singly after) (singly-hears fecf (p .frames) ∙ stands-for-many))
+      ∙ sym (singly-append before (hears-many (joined blocks) fecf ∷ after))
+
+pub in-blocks : (H : Hearer) → Demand3 H → (call : intake.Call) → Promised call → Demand3InBlocks H call
+in-blocks H demand call promised K width fecf S lo hi r₀ r long begins choice holding blocks p room oct o before after es stand near unfull =
+    demand K width fecf S lo hi r₀ r long begins es _ (among-calls call promised choice holding room blocks p oct o before after ∙ stand) near unfull
+
+-- the places 0 and 2 of the oven, their octets cut anyhow: both are handed on, and one is missing
+pub one-missing-in-blocks : (call : intake.Call) → Promised call → (holding : List ℕ) → 65536 ≤ length holding
+    → (blocks : List (List ℕ)) (p : Passage) → joined blocks ≡ frames → Offered call false holding 0 blocks p
+    → (handed frameHearing craft begun (asTheyCome false p) ≡ handingAt sender 0 0 ∷ handingAt sender 1 2 ∷ [])
+    × (missingFor craft (run frameHearing craft begun (asTheyCome false p)) ≡ 1)
+one-missing-in-blocks call promised holding room blocks p e o =
+    let oct : AreOctets (joined blocks) = subst AreOctets (sym e) (are-append (frameAt sender 0) (frameAt sender 2) (are-sent 0) (are-sent 2)) in
+    let heard : asTheyCome false p ≡ calls 0 2 =
+    stands-for-many call promised false holding room blocks p oct o
+    ∙ ap (λ (l : List ℕ). standsFor (hears-many l false)) e ∙ sym (append-nil (standsFor (hears-many frames false))) ∙ stands in
+    (ap (handed frameHearing craft begun) heard ∙ one-missing .0, ap (λ (cs : List Call). missingFor craft (run frameHearing craft begun cs)) heard ∙ one-missing .1)
