@@ -1,5 +1,5 @@
 -- What a call's answer says of the octets held, before and after it.
-use mathlib.Core.Path.{_≡_, ap, ap₂, sym, _∙_, subst}
+use mathlib.Core.Path.{_≡_, refl, ap, ap₂, sym, _∙_, subst}
 use mathlib.Core.Bool.{Bool, true, false, cond, false≢true}
 use mathlib.Core.List.{List, _++_, append-assoc, append-nil}
 use Prim.Native.Nat.{ℕ, _+_, _-_, _<_, _≤_}
@@ -7,7 +7,7 @@ use native.Mathlib.Omega.{arith}
 use native.Mathlib.Decide.{decLt}
 use native.Mathlib.Nat.{add-zero}
 use lib.ListN.{length, take, drop, length-append, take-append-drop}
-use lib.Seq.{paste, take-paste, length-paste, length-take-le, take-add, take-append-le}
+use lib.Seq.{paste, paste-zero, take-paste, length-paste, length-take-le, take-add, take-append-le}
 use lib.Dec.{eqb}
 use Rattle.uslp_octets.specs.Octets.{AreOctets}
 use Rattle.uslp_octets.proofs.Laws.{are-append, are-take}
@@ -21,8 +21,8 @@ use Rattle.uslp_reader.specs.declared.TransferFrame.{TransferFrame}
 use Rattle.uslp_reader.proofs.Done.{read-done}
 use Rattle.uslp_reader.proofs.Own.{own-octets}
 use Rattle.uslp_reader.proofs.Behind.{reading-before}
-use Rattle.uslp_intake.specs.Intake.{Intake, waiting, frame, stopped, taking, gathered, deciding, intaking}
-use Rattle.uslp_intake.proofs.Taking.{by-test, taking-le, taking-room, taking-least, taking-last}
+use Rattle.uslp_intake.specs.Intake.{Intake, waiting, frame, stopped, takenBy, taking, gathered, deciding, intaking}
+use Rattle.uslp_intake.proofs.Taking.{by-test, taking-none, taking-le, taking-room, taking-least, taking-last}
 use Rattle.uslp_intake.proofs.Steps.{intaking-field, intaking-target, intaking-done, taken-none, taken-decided}
 use Rattle.uslp_cutting.specs.Offering.{Waiting}
 
@@ -108,6 +108,16 @@ module _ {fecf : Bool} {s : List ℕ} {held : ℕ} {block : List ℕ} {i : Intak
       length-append (take held s) (take count block)
       ∙ ap₂ (λ (a b : ℕ). a + b) held-long (length-take-le count block (taking-le fecf (take held s) block))
 
+-- how many octets a call takes is told by each answer
+taken-deciding : (o : Outcome TransferFrame) (n m : ℕ) → takenBy (done (deciding o n m)) ≡ n
+taken-deciding (done x) n m = refl
+taken-deciding (refused k vs) n m = by-test (eqb k 1) (λ y. rw y) (λ y. rw y)
+
+pub called-takes : {fecf : Bool} {s : List ℕ} {held : ℕ} {block : List ℕ} {i : Intake} {t : List ℕ} → Called fecf s held block i t
+    → takenBy (done i) ≡ taking fecf (take held s) block
+called-takes {fecf} {s} {held} {block} c =
+    ap (λ (j : Intake). takenBy (done j)) (sym (c .answer)) ∙ taken-deciding (frameReading (gathered fecf (take held s) block) fecf) _ _
+
 -- octets held that decide already, as after a stop or with a held number that no call made: none is taken and nothing is written,
 -- and the answer is what the reader says of them
 pub held-decides : (fecf : Bool) (s : List ℕ) (held : ℕ) (block : List ℕ) → 65536 ≤ length s → held ≤ 65536
@@ -131,6 +141,50 @@ some-taken fecf held block e f =
     ]
 
 module _ (fecf : Bool) (s : List ℕ) (held : ℕ) (block t : List ℕ) where
+  -- what was held, then what was taken, then the buffer as it was: nothing else is written
+  pub writes-taken : {i : Intake} → intaking fecf s held block ≡ leaving (done i) t
+      → t ≡ take held s ++ take (takenBy (done i)) block ++ drop (held + takenBy (done i)) s
+  writes-taken e =
+      let c = called fecf s held block e in c .writes ∙ ap (paste s held block) (sym (called-takes c))
+
+  -- no octet is taken beyond one that decides, and no more than there are
+  pub takes-least : (o : Outcome Intake) → intaking fecf s held block ≡ leaving o t → (m : ℕ) → short (frameReading (take held s ++ take m block) fecf) ≡ false
+      → takenBy o ≤ m
+  takes-least (refused k vs) e m h = omega arith
+  takes-least (done i) e m h =
+      elim (decLt m (takenBy (done i))) [
+        | yes l ↦ absurd (false≢true (sym h ∙ taking-least fecf m (take held s) block (omega (arith, called-takes (called fecf s held block e)))))
+        | no l ↦ omega arith
+      ]
+
+  pub takes-most : (o : Outcome Intake) → intaking fecf s held block ≡ leaving o t → takenBy o ≤ length block
+  takes-most (refused k vs) e = omega arith
+  takes-most (done i) e = omega (arith, called-takes (called fecf s held block e), taking-le fecf (take held s) block)
+
+  -- none after a stop
+  pub takes-none : (o : Outcome Intake) → intaking fecf s held block ≡ leaving o t → short (frameReading (take held s) fecf) ≡ false → (takenBy o ≡ 0) × (t ≡ s)
+  takes-none (refused k vs) e h = (refl, refused-keeps fecf s held block e)
+  takes-none (done i) e h =
+      let c = called fecf s held block e in
+      let none = called-takes c ∙ taking-none fecf (take held s) block h in
+      (none, c .writes ∙ ap (paste s held block) (taking-none fecf (take held s) block h) ∙ sym (paste-zero s held block))
+
+  -- a wait and a stop hold what was held and what was taken
+  pub wait-holds : {n m : ℕ} → intaking fecf s held block ≡ leaving (done (waiting n m)) t → m ≡ held + n
+  wait-holds e =
+      let w = of-waiting (frameReading (gathered fecf (take held s) block) fecf) _ _ (called fecf s held block e .answer) in omega (arith, w .1, w .2)
+
+  pub stop-holds : {n m k : ℕ} {vs : List ℕ} → intaking fecf s held block ≡ leaving (done (stopped n m k vs)) t → m ≡ held + n
+  stop-holds e =
+      let w = of-stopped (frameReading (gathered fecf (take held s) block) fecf) _ _ (called fecf s held block e .answer) in omega (arith, w .2, w .3)
+
+  -- what a wait holds is too short
+  pub wait-short : {n m : ℕ} → intaking fecf s held block ≡ leaving (done (waiting n m)) t → short (frameReading (take m t) fecf) ≡ true
+  wait-short {n} {m} e =
+      let c = called fecf s held block e in
+      let w = of-waiting (frameReading (gathered fecf (take held s) block) fecf) _ _ (c .answer) in
+      ap (λ (k : ℕ). short (frameReading (take k t) fecf)) (sym (w .2)) ∙ ap (λ (l : List ℕ). short (frameReading l fecf)) (stands c) ∙ w .0
+
   -- a wait has taken all of the block, and leaves a buffer that waits
   pub wait-takes : {n m : ℕ} → intaking fecf s held block ≡ leaving (done (waiting n m)) t → n ≡ length block
   wait-takes {n} {m} e =
@@ -151,7 +205,7 @@ module _ (fecf : Bool) (s : List ℕ) (held : ℕ) (block t : List ℕ) where
         room = omega (arith, stays-long c, c .room);
         few = omega (arith, stays-within c, w .2);
         octets = subst AreOctets at (are-append u (take (taking fecf u block) block) so (are-take (taking fecf u block) block bo));
-        undecided = ap (λ (l : List ℕ). short (frameReading l fecf)) (sym at) ∙ w .0;
+        undecided = wait-short e;
       }
 
   -- after a stop every call takes nothing, writes nothing and stops the same

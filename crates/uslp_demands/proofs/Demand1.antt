@@ -1,8 +1,9 @@
--- Demand 1 of the calls that write: a refusal leaves every octet of the lent buffer as it was, and of restoring: it leaves the record.
+-- Demand 1 of the calls that write: a refusal leaves every octet of the lent buffer as it was, and of restoring: it leaves the record. And what
+-- the intake writes where it waits or stops: what it took, and nothing else.
 use mathlib.Core.Path.{_≡_, sym}
 use mathlib.Core.Bool.{Bool, true, cond}
 use mathlib.Core.List.{List, [], _∷_, _++_}
-use Prim.Native.Nat.{ℕ, _-_, min}
+use Prim.Native.Nat.{ℕ, _+_, _-_, min}
 use lib.Dec.{ltb}
 use lib.ListN.{length, take, drop}
 use contract.Lifetimes.{Lfts}
@@ -31,12 +32,16 @@ use Rattle.uslp_form.proofs.Rows.{restores-refused}
 use Rattle.uslp_listing.specs.Listing.{listing, room, listingOver}
 use Rattle.uslp_lent.specs.Setting.{headerLeft, headerOff}
 use Rattle.uslp_lent.proofs.setters as setters
+use Rattle.uslp_intake.specs.declared.IntakeAnswer.the-variants as intake-answer
+use Rattle.uslp_cutting.proofs.Calls.{writes-taken, wait-holds, stop-holds}
+use Rattle.uslp_cutting.proofs.Calls.{refused-keeps as intake-keeps}
 use Rattle.uslp_demands.specs.Promise.{Allows}
 use Rattle.uslp_demands.specs.Clause.{Implies}
 use Rattle.uslp_demands.proofs.Facts.{implies}
 use Rattle.uslp_demands.proofs.OfPrimaryHeader as of-header
 use Rattle.uslp_demands.proofs.OfDataFieldHeader as of-field
 use Rattle.uslp_demands.proofs.OfWriter.{fn-write-to-slice, fn-new, fn-fill, fn-finish}
+use Rattle.uslp_demands.proofs.OfIntake.{Takes}
 use Rattle.uslp_demands.proofs.OfSaved.{fn-save, fn-restore}
 use Rattle.uslp_demands.proofs.OfListing.{fn-list}
 
@@ -106,6 +111,19 @@ module _ (r : Refusal) (s : RefT (List ℕ)) (left : List ℕ) where
   save-kept κs q e =
       let n = length (formOf one q) in
       refused-keeps (firstOf (short (now s) n) (done n)) (formOf one q ++ drop n (now s)) (now s) (sym e)
+
+-- the intake's own refusals
+pub take-block-kept : (r : Refusal) (s left : List ℕ) (held : ℕ) (block : List ℕ) (fecf : Bool) → Takes s held block fecf (intake-answer.Refused r) left → left ≡ s
+take-block-kept r s left held block fecf e = intake-keeps fecf s held block (sym e)
+
+-- a wait and a stop hold what was held and then what was taken, and the rest of the buffer stays
+pub wait-kept : (s left : List ℕ) (held : ℕ) (block : List ℕ) (fecf : Bool) (n m : ℕ) → Takes s held block fecf (intake-answer.Waiting n m) left
+    → (m ≡ held + n) × (left ≡ take held s ++ take n block ++ drop (held + n) s)
+wait-kept s left held block fecf n m e = (wait-holds fecf s held block left (sym e), writes-taken fecf s held block left (sym e))
+
+pub stop-kept : (s left : List ℕ) (held : ℕ) (block : List ℕ) (fecf : Bool) (n m : ℕ) (r : Refusal) → Takes s held block fecf (intake-answer.Stopped n m r) left
+    → (m ≡ held + n) × (left ≡ take held s ++ take n block ++ drop (held + n) s)
+stop-kept s left held block fecf n m r e = (stop-holds fecf s held block left (sym e), writes-taken fecf s held block left (sym e))
 
 pub restore-kept : (r : Refusal) (κs : Lfts 1) (q left : ChannelRecord) (s : RefT (List ℕ))
     → Allows fn-restore κs (q, (s, tt)) (record { answer = done-answer.Refused r; next = left }, (tt, (tt, tt)))

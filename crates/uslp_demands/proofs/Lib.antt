@@ -8,6 +8,7 @@ pub mod OfDataFieldHeader
 pub mod OfLayout
 pub mod OfWriter
 pub mod OfReader
+pub mod OfIntake
 pub mod OfTiming
 pub mod OfRecord
 pub mod OfHearing

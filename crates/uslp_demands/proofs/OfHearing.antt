@@ -11,6 +11,7 @@ use Rattle.uslp_primary_header.specs.Header.{headerReading}
 use Rattle.uslp_data_field_header.specs.Field.{fieldReading}
 use Rattle.uslp_reader.specs.Reader.{frameReading}
 use Rattle.uslp_record.specs.Slots.{find, stateAt, put, emptyRecord}
+use Rattle.uslp_record.specs.Record.{keeping}
 use Rattle.uslp_record.specs.Judging.{judging}
 use Rattle.uslp_record.specs.declared.Channel.{Channel}
 use Rattle.uslp_record.specs.declared.ChannelRecord.{ChannelRecord}
@@ -22,6 +23,7 @@ use Rattle.uslp_hearing.specs.Hearing.{paperHear, paperJudge}
 use Rattle.uslp_hearing.specs.declared.FrameArrival.the-variants.{New, Repeat, Late}
 use Rattle.uslp_hearing.specs.declared.FrameArrival.{FrameArrival}
 use Rattle.uslp_hearing.specs.declared.HearAnswer.the-variants.{Done, Refused}
+use Rattle.uslp_hearing.specs.declared.Hearing.{Hearing}
 use Rattle.uslp_hearing.specs.declared.JudgeAnswer.the-variants as judge-answer
 use Rattle.uslp_hearing.proofs.Heard.{hear-back, judge-back}
 use Rattle.uslp_hearing.proofs as hearing
@@ -35,6 +37,9 @@ fn-hear = function hearing.hear.Kinds.ps hearing.hear.Kinds.r hearing.hear.Reads
 
 abbrev pub fn-judge : Function
 fn-judge = function hearing.judge.Kinds.ps hearing.judge.Kinds.r hearing.judge.Reads.Pre hearing.judge.Reads.Learnt
+
+abbrev pub fn-hear-frame : Function
+fn-hear-frame = function hearing.hear_frame.Kinds.ps hearing.hear_frame.Kinds.r hearing.hear_frame.Reads.Pre hearing.hear_frame.Reads.Learnt
 
 abbrev fn-handed-on : Function
 fn-handed-on = function hearing.handed_on.Kinds.ps hearing.handed_on.Kinds.r hearing.handed_on.Reads.Pre hearing.handed_on.Reads.Learnt
@@ -59,18 +64,17 @@ gapOf Late = 0
 abbrev handedFirst : ChannelRecord → ℕ
 handedFirst r = handedIn (stateAt r 0)
 
+-- two answers with the record after them that say the same are the same
+hearing-one : {x y : Hearing} → keeping (paperHear (x .answer)) (x .next) ≡ keeping (paperHear (y .answer)) (y .next) → x ≡ y
+hearing-one {x} {y} q =
+    let e = keeping-one q in
+    λ i. record { answer = one-to-one paperHear (back Done Refused) hear-back {x = x .answer} {y = y .answer} (e .0) i; next = e .1 i }
+
 pub hear-settles : Settles fn-hear
-hear-settles = record {
-  total = λ κs a. tt;
-  same = λ κs a x y s t.
-      let e = keeping-one (s ∙ sym t) in
-      alike
-      (λ i. record {
-        answer = one-to-one paperHear (back Done Refused) hear-back {x = x .0 .answer} {y = y .0 .answer} (e .0) i;
-        next = e .1 i;
-      })
-      refl;
-}
+hear-settles = record { total = λ κs a. tt; same = λ κs a x y s t. alike (hearing-one {x = x .0} {y = y .0} (s ∙ sym t)) refl }
+
+pub hear-frame-settles : Settles fn-hear-frame
+hear-frame-settles = record { total = λ κs a. tt; same = λ κs a x y s t. alike (hearing-one {x = x .0} {y = y .0} (s ∙ sym t)) refl }
 
 pub judge-settles : Settles fn-judge
 judge-settles = record {
@@ -90,6 +94,15 @@ hear-lax e = let z : _≡_ {A = ℕ} 0 1 = cc in omega arith
 pub hear-still : Allows fn-hear ([], tt) (opened, (at octetsF, (false, tt))) (record { answer = Done (New 0 readF); next = opened }, (tt, (tt, (tt, tt)))) → ⊥
 unfolding frameReading headerReading fieldReading judging find
 hear-still e = let z : _≡_ {A = ℕ} 0 1 = ap (λ (r : ChannelRecord). handedFirst r) (keeping-one e .1) in omega arith
+
+-- the same of a frame that was read already
+pub hear-frame-lax : Allows fn-hear-frame tt (emptyRecord, (readF, tt)) (record { answer = Done Repeat; next = emptyRecord }, (tt, (tt, tt))) → ⊥
+unfolding judging find
+hear-frame-lax e = let z : _≡_ {A = ℕ} 0 1 = cc in omega arith
+
+pub hear-frame-still : Allows fn-hear-frame tt (opened, (readF, tt)) (record { answer = Done (New 0 readF); next = opened }, (tt, (tt, tt))) → ⊥
+unfolding judging find
+hear-frame-still e = let z : _≡_ {A = ℕ} 0 1 = ap (λ (r : ChannelRecord). handedFirst r) (keeping-one e .1) in omega arith
 
 -- judges a channel that is not open; hands a gap on that is not there
 pub judge-lax : (c : Change) → Allows fn-judge ([], tt) (emptyRecord, (at octetsF, (false, tt))) (judge-answer.Done Repeat c, (tt, (tt, (tt, tt)))) → ⊥

@@ -10,7 +10,7 @@ use Rattle.uslp_kinds.specs.declared.BypassSequenceControlFlag.the-variants.{Se
 use Rattle.uslp_kinds.specs.declared.ProtocolControlCommandFlag.the-variants.{TfdfContainsUserData, TfdfContainsProtocolInfo}
 use Rattle.uslp_kinds.specs.declared.ConstructionRule.the-variants.{PacketSpanningMultipleFrames, OctetStream, NoSegmentation}
 use Rattle.uslp_kinds.specs.declared.UslpProtocolId.the-variants.{UserDefinedOctetStream, Idle}
-use Rattle.uslp_kinds.specs.declared.Refusal.the-variants.{BadProtocol}
+use Rattle.uslp_kinds.specs.declared.Refusal.the-variants.{ShortSource, ShortTarget, BadProtocol}
 use Rattle.uslp_kinds.specs.declared.ProtocolIdAnswer.the-variants.{Done, Refused}
 use Rattle.uslp_kinds.proofs as kinds
 use Rattle.uslp_demands.specs.Promise.{Function, function, Allows, Settles}
@@ -76,6 +76,11 @@ abbrev fn-refusal-number : Function
 fn-refusal-number =
     function kinds.Refusal.number.Kinds.ps kinds.Refusal.number.Kinds.r
     kinds.Refusal.number.Reads.Pre kinds.Refusal.number.Reads.Learnt
+
+abbrev fn-refusal-lacking : Function
+fn-refusal-lacking =
+    function kinds.Refusal.lacking.Kinds.ps kinds.Refusal.lacking.Kinds.r
+    kinds.Refusal.lacking.Reads.Pre kinds.Refusal.lacking.Reads.Learnt
 
 pub source-or-dest-from-settles : Settles fn-from-number
 source-or-dest-from-settles = record { total = λ κs a. tt; same = λ κs a x y s t. alike (s ∙ sym t) refl }
@@ -208,3 +213,13 @@ refusal-number-zero e = omega arith
 
 pub refusal-number-carried : Allows fn-refusal-number tt (BadProtocol 9, tt) (9, (tt, tt)) → ⊥
 refusal-number-carried e = omega arith
+
+pub refusal-lacking-settles : Settles fn-refusal-lacking
+refusal-lacking-settles = record { total = λ κs a. tt; same = λ κs a x y s t. alike (s ∙ sym t) refl }
+
+-- all that is expected; the room of a buffer to write
+pub refusal-lacking-all : Allows fn-refusal-lacking tt (ShortSource 3 4, tt) (4, (tt, tt)) → ⊥
+refusal-lacking-all e = omega arith
+
+pub refusal-lacking-target : Allows fn-refusal-lacking tt (ShortTarget 3 4, tt) (1, (tt, tt)) → ⊥
+refusal-lacking-target e = omega arith

@@ -1,11 +1,11 @@
--- Any program that keeps the promise of the reader, of the writer or of the hearing has demand 2 or 3, over restarts too, so the programs that
+-- Any program that keeps the promise of the reader, of the writer or of the hearing has demand 2 or 3, over restarts and in blocks too, so the programs that
 -- those demands shut out (`uslp_roundtrip/proofs/Wrong.antt`, `uslp_counting/proofs/Wrong.antt`) keep none of them. And none reports a too-long
 -- total wrapped.
 use mathlib.Core.Path.{_≡_, refl, sym, _∙_, ap, subst}
 use mathlib.Core.Bool.{Bool, true}
 use mathlib.Core.Logic.{_↔_}
 use mathlib.Core.List.{List, [], _∷_}
-use Prim.Native.Nat.{ℕ}
+use Prim.Native.Nat.{ℕ, _≤_}
 use native.Mathlib.Omega.{arith}
 use lib.ListN.{length}
 use Rattle.uslp_octets.specs.Octets.{AreOctets}
@@ -17,7 +17,7 @@ use Rattle.uslp_primary_header.specs.Header.{headerChecking}
 use Rattle.uslp_data_field_header.specs.Field.{fieldChecking}
 use Rattle.uslp_writer.proofs.Lengths.{length-long}
 use Rattle.uslp_writer.proofs.Paths.{writing-refused}
-use Rattle.uslp_reader.specs.Reader.{paperFrame}
+use Rattle.uslp_reader.specs.Reader.{paperFrame, frameReading}
 use Rattle.uslp_reader.specs.declared.TransferFrame.{TransferFrame}
 use Rattle.uslp_record.specs.Record.{keeping}
 use Rattle.uslp_record.specs.declared.Channel.{Channel}
@@ -37,10 +37,18 @@ use Rattle.uslp_counting.proofs.Called.{many-called}
 use Rattle.uslp_many.specs.Many.{noFrames, KeptMany, paperMany}
 use Rattle.uslp_many.specs.Singly.{Singly}
 use Rattle.uslp_many.proofs.Singly.{one-at-a-time}
+use Rattle.uslp_hearing.proofs.Heard.{frame-heard}
+use Rattle.uslp_intake.specs.Intake.{stopped, paperIntake}
+use Rattle.uslp_cutting.specs.Offering.{Passage, Call, Promised, Offered, joined, Waiting, passage}
+use Rattle.uslp_cutting.proofs.Calls.{stop-stops}
+use Rattle.uslp_cutting.proofs.Cutting.{cutting, from-nothing}
+use Rattle.uslp_counting.specs.Blocks.{Demand3InBlocks}
+use Rattle.uslp_counting.proofs.Blocks.{in-blocks}
 use Rattle.uslp_demands.specs.Promise.{at, Program, Keeps}
 use Rattle.uslp_demands.proofs.OfWriter.{fn-write-to-slice}
 use Rattle.uslp_demands.proofs.OfReader.{fn-from-bytes}
-use Rattle.uslp_demands.proofs.OfHearing.{fn-hear}
+use Rattle.uslp_demands.proofs.OfIntake.{fn-take-block}
+use Rattle.uslp_demands.proofs.OfHearing.{fn-hear, fn-hear-frame}
 use Rattle.uslp_demands.proofs.OfMany.{fn-hear-many}
 
 -- what a program does, as the demands see it
@@ -85,6 +93,39 @@ pub many-stands : (f : Program fn-hear) → Keeps fn-hear f → (g : Program fn-
 many-stands f k g l K r s fecf =
     ap (λ (q : KeptMany). q .next) (l ([], tt) (r, (at s, (fecf, tt)))) ∙ many-called K r s fecf
     ∙ ap (λ (H : histories.Hearer). histories.called H K r (hears-many s fecf) .1) (λ i r s fecf. sym (k ([], tt) (r, (at s, (fecf, tt)))) i)
+
+-- whatever keeps the intake's promise gives the same for octets cut anyhow, and what stops it goes on to stop it
+abbrev pub intakeOf : Program fn-take-block → Call
+intakeOf f fecf s held block =
+    let x = f ([], ([], tt)) (at s, (held, (at block, (fecf, tt)))) in
+    leaving (paperIntake (x .0)) (x .1 .0)
+
+intake-promised : (f : Program fn-take-block) → Keeps fn-take-block f → Promised (intakeOf f)
+intake-promised f k fecf s held block = k ([], ([], tt)) (at s, (held, (at block, (fecf, tt))))
+
+pub intake-cutting : (f : Program fn-take-block) → Keeps fn-take-block f → (fecf : Bool) (s : List ℕ) (held : ℕ) → Waiting fecf s held
+    → (blocks : List (List ℕ)) (p : Passage) → AreOctets (joined blocks)
+    → Offered (intakeOf f) fecf s held blocks p ↔ Offered (intakeOf f) fecf s held (joined blocks ∷ []) p
+intake-cutting f k fecf s held w = cutting (intakeOf f) (intake-promised f k) fecf s held w
+
+pub intake-passage : (f : Program fn-take-block) → Keeps fn-take-block f → (fecf : Bool) (s : List ℕ) → 65536 ≤ length s
+    → (blocks : List (List ℕ)) (p : Passage) → AreOctets (joined blocks) → Offered (intakeOf f) fecf s 0 blocks p ↔ (p ≡ passage fecf (joined blocks))
+intake-passage f k fecf s room = from-nothing (intakeOf f) (intake-promised f k) fecf s room
+
+pub intake-stops : (f : Program fn-take-block) → Keeps fn-take-block f → (fecf : Bool) (s : List ℕ) (held : ℕ) (block t : List ℕ) (n m k : ℕ) (vs : List ℕ)
+    → intakeOf f fecf s held block ≡ leaving (done (stopped n m k vs)) t → (next : List ℕ) → intakeOf f fecf t m next ≡ leaving (done (stopped 0 m k vs)) t
+intake-stops f l fecf s held block t n m k vs e next =
+    intake-promised f l fecf t m next ∙ stop-stops fecf s held block t (sym (intake-promised f l fecf s held block) ∙ e) next
+
+-- and with whatever keeps the hearing's promise, the console knows what it lacks of octets that came in blocks
+pub in-blocks-demand : (f : Program fn-hear) → Keeps fn-hear f → (g : Program fn-take-block) → Keeps fn-take-block g → Demand3InBlocks (hearerOf f) (intakeOf g)
+in-blocks-demand f k g l = in-blocks (hearerOf f) (hearer-demand f k) (intakeOf g) (intake-promised g l)
+
+-- hearing a frame as it was read is hearing its octets
+pub frame-hearing : (f : Program fn-hear) → Keeps fn-hear f → (g : Program fn-hear-frame) → Keeps fn-hear-frame g
+    → (r : ChannelRecord) (s : List ℕ) (fecf : Bool) (x : TransferFrame) → frameReading s fecf ≡ done x
+    → keeping (paperHear (g tt (r, (x, tt)) .0 .answer)) (g tt (r, (x, tt)) .0 .next) ≡ hearerOf f r s fecf
+frame-hearing f k g l r s fecf x e = l tt (r, (x, tt)) ∙ frame-heard r s fecf e ∙ sym (k ([], tt) (r, (at s, (fecf, tt))))
 
 -- a too-long total reported by a wrapped field: whatever the data and the buffer, 65,529 octets of data get TOO_LONG
 plain-passes : (headerChecking (plain .«primary_header») ≡ done (plain .«primary_header»)) ×
