@@ -52,7 +52,7 @@ fn say_none() {
 }
 
 // A space, and octets in hex, or a dash for none.
-pub(crate) fn say_data(octets: &[u8]) {
+pub fn say_data(octets: &[u8]) {
     if octets.len() == 0 {
         say_none();
         return;
@@ -80,7 +80,7 @@ fn say_group(octets: &[u8]) {
 }
 
 // The number of a refusal, and what it carries.
-pub(crate) fn say_refusal(refusal: Refusal) {
+pub fn say_refusal(refusal: Refusal) {
     say_number(refusal.number() as u64);
     match refusal {
         Refusal::ShortSource { found, expected } => say_two(found as u64, expected as u64),

@@ -20,11 +20,13 @@ use uslp_answers::reading::dr;
 use uslp_answers::reading::fr;
 use uslp_answers::reading::hr;
 use uslp_answers::say_bad;
+use uslp_answers::say_zero;
 use uslp_answers::values::FECF;
 use uslp_answers::values::HEX;
 use uslp_answers::values::Values;
 use uslp_answers::writing::fw;
 use uslp_answers::writing::hw;
+use uslp_intake_answers::feed;
 use uslp_many_answers::many;
 use uslp_record::ChannelRecord;
 
@@ -59,19 +61,21 @@ const RESTORE: usize = 13;
 
 const MANY: usize = 14;
 
-const NOTHING: usize = 15;
+const FEED: usize = 15;
+
+const DROP: usize = 16;
+
+const NOTHING: usize = 17;
 
 // Answers the line that is held. One that is too long is no command, as an empty one.
-pub(crate) fn answer(line: &mut [u8], bench: Bench) -> Bench {
-    let channels = answer_line(part_mut(line, 0, bench.held), bench.channels);
-    Bench {
-        channels,
-        held: 0,
-        ended: !io::write_all(STDOUT_FILENO, b"\n"),
-    }
+pub(crate) fn answer(line: &mut [u8], holding: &mut [u8], bench: Bench) -> Bench {
+    let mut next = answer_line(part_mut(line, 0, bench.held), holding, bench);
+    next.held = 0;
+    next.ended = !io::write_all(STDOUT_FILENO, b"\n");
+    next
 }
 
-fn answer_line(line: &mut [u8], channels: ChannelRecord) -> ChannelRecord {
+fn answer_line(line: &mut [u8], holding: &mut [u8], bench: Bench) -> Bench {
     let mut values = no_values();
     let command = command_in(line, &mut values);
     let start = values[HEX] as usize;
@@ -80,7 +84,8 @@ fn answer_line(line: &mut [u8], channels: ChannelRecord) -> ChannelRecord {
         command,
         &values,
         part_mut(line, start, digits.end),
-        channels,
+        holding,
+        bench,
     )
 }
 
@@ -100,7 +105,9 @@ show scid vc
 total
 save buflen
 restore hex
-many fecf hex";
+many fecf hex
+feed fecf hex
+drop";
     called(rows, line, values)
 }
 
@@ -123,13 +130,17 @@ fn act(
     command: usize,
     values: &Values,
     digits: &mut [u8],
-    channels: ChannelRecord,
-) -> ChannelRecord {
+    holding: &mut [u8],
+    bench: Bench,
+) -> Bench {
     decode(digits);
     let n = digits.len() / 2;
     let data = part(digits, 0, n);
     act_on_frame(command, values, data);
-    act_on_channels(command, values, data, channels)
+    let mut next = bench;
+    next.channels = act_on_channels(command, values, data, bench.channels);
+    next.in_intake = act_on_intake(command, values, data, holding, bench.in_intake);
+    next
 }
 
 fn act_on_frame(command: usize, values: &Values, data: &[u8]) {
@@ -161,5 +172,22 @@ fn act_on_channels(
         RESTORE => restore(data, channels),
         MANY => many(data, values[FECF] == 1, channels),
         _ => channels,
+    }
+}
+
+fn act_on_intake(
+    command: usize,
+    values: &Values,
+    data: &[u8],
+    holding: &mut [u8],
+    held: usize,
+) -> usize {
+    match command {
+        FEED => feed(holding, held, data, values[FECF] == 1),
+        DROP => {
+            say_zero();
+            0
+        }
+        _ => held,
     }
 }

@@ -6,10 +6,10 @@ use Rattle.uslp_bench.proofs.answer_lines.Statement.{statement}
 use Rattle.uslp_bench.proofs.answer_lines.Tie as tie
 
 abbrev Inv-loop : tie.InvT-loop
-Inv-loop block line₀ now₀ i₀ line now i = Unit
+Inv-loop block line₀ holding₀ now₀ i₀ line holding now i = Unit
 
 abbrev μ-loop : tie.MeasureT-loop
-μ-loop block line₀ now₀ i₀ line now i = length block - i
+μ-loop block line₀ holding₀ now₀ i₀ line holding now i = length block - i
 
 pub answer-lines-spec : {M : Type 1} → statement M
 answer-lines-spec =

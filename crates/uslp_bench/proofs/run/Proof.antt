@@ -4,10 +4,10 @@ use Rattle.uslp_bench.proofs.run.Statement.{statement}
 use Rattle.uslp_bench.proofs.run.Tie as tie
 
 abbrev Inv-loop : tie.InvT-loop
-Inv-loop line₀ bench₀ turns₀ line bench turns = Unit
+Inv-loop line₀ holding₀ bench₀ turns₀ line holding bench turns = Unit
 
 abbrev μ-loop : tie.MeasureT-loop
-μ-loop line₀ bench₀ turns₀ line bench turns = turns
+μ-loop line₀ holding₀ bench₀ turns₀ line holding bench turns = turns
 
 pub run-spec : {M : Type 1} → statement M
 run-spec =
