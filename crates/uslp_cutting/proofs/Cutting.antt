@@ -22,7 +22,8 @@ use Rattle.uslp_intake.proofs.Taking.{taking-le}
 use Rattle.uslp_intake.proofs.Steps.{intaking-done}
 use Rattle.uslp_cutting.specs.Offering.{Passage, after, behind, Call, Promised, Offered, joined, Waiting, passage}
 use Rattle.uslp_cutting.specs.Offering.Offered.{no-more, waits-on, gives-out, stops-at, is-refused}
-use Rattle.uslp_cutting.proofs.Calls.{called, not-refused, of-waiting, of-frame, of-stopped, stays-long, stands, gathered-long, some-taken, wait-takes, wait-waits, frame-whole}
+use Rattle.uslp_intake.proofs.Calls.{called, not-refused, of-waiting, of-frame, of-stopped, stays-long, stands, gathered-long, wait-takes}
+use Rattle.uslp_cutting.proofs.Calls.{some-taken, wait-waits, frame-whole}
 use Rattle.uslp_cutting.proofs.Passages.{passage-eq, taking-all-short, taking-past, passage-waits, passage-stops, passage-frame}
 
 -- what stands behind octets is octets

@@ -33,8 +33,8 @@ use Rattle.uslp_listing.specs.Listing.{listing, room, listingOver}
 use Rattle.uslp_lent.specs.Setting.{headerLeft, headerOff}
 use Rattle.uslp_lent.proofs.setters as setters
 use Rattle.uslp_intake.specs.declared.IntakeAnswer.the-variants as intake-answer
-use Rattle.uslp_cutting.proofs.Calls.{writes-taken, wait-holds, stop-holds}
-use Rattle.uslp_cutting.proofs.Calls.{refused-keeps as intake-keeps}
+use Rattle.uslp_intake.proofs.Calls.{writes-taken, wait-holds, stop-holds}
+use Rattle.uslp_intake.proofs.Calls.{refused-keeps as intake-keeps}
 use Rattle.uslp_demands.specs.Promise.{Allows}
 use Rattle.uslp_demands.specs.Clause.{Implies}
 use Rattle.uslp_demands.proofs.Facts.{implies}

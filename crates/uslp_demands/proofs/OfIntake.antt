@@ -4,24 +4,24 @@ use mathlib.Core.Bool.{Bool, true, false}
 use mathlib.Core.List.{List, [], _∷_, _++_}
 use Prim.Native.Nat.{ℕ, _+_, _≤_}
 use native.Mathlib.Omega.{arith}
-use lib.ListN.{length, take, drop}
+use lib.ListN.{length, take}
 use Rattle.uslp_octets.specs.Octets.{AreOctets}
 use Rattle.uslp_kinds.specs.Outcome.{Outcome, done, refused, leaving}
 use Rattle.uslp_kinds.specs.Answers.{short}
 use Rattle.uslp_kinds.specs.declared.Refusal.the-variants.{Truncated}
-use Rattle.uslp_kinds.proofs.Outcomes.{done-one}
 use Rattle.uslp_kinds.proofs.Back.{refusalOf, refusal-back, one-to-one, leaving-one}
 use Rattle.uslp_primary_header.specs.Header.{lenFrame, headerReading}
 use Rattle.uslp_reader.specs.Reader.{frameReading}
 use Rattle.uslp_reader.specs.declared.TransferFrame.{TransferFrame}
 use Rattle.uslp_roundtrip.specs.Samples.{readF}
-use Rattle.uslp_intake.specs.Intake.{Intake, waiting, frame, stopped, paperIntake, takenBy, taking, intaking}
+use Rattle.uslp_intake.specs.Intake.{Intake, waiting, frame, stopped, paperIntake, takenBy, taking}
 use Rattle.uslp_intake.specs.declared.IntakeAnswer.{IntakeAnswer}
 use Rattle.uslp_intake.specs.declared.IntakeAnswer.the-variants.{Waiting, Frame, Stopped, Refused}
 use Rattle.uslp_intake.proofs as intake
 use Rattle.uslp_intake.proofs.Steps.{intaking-done}
 use Rattle.uslp_cutting.specs.Offering as cutting
-use Rattle.uslp_cutting.proofs.Calls.{takes-least, takes-none, writes-taken, wait-holds, wait-short, stop-holds, stop-stops, frame-whole}
+use Rattle.uslp_intake.proofs.Calls.{takes-least, takes-none, wait-short}
+use Rattle.uslp_cutting.proofs.Calls.{frame-whole}
 use Rattle.uslp_demands.specs.Promise.{Function, function, at, Allows, Settles}
 use Rattle.uslp_demands.proofs.Alike.{alike}
 

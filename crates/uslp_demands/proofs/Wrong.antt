@@ -40,7 +40,7 @@ use Rattle.uslp_many.proofs.Singly.{one-at-a-time}
 use Rattle.uslp_hearing.proofs.Heard.{frame-heard}
 use Rattle.uslp_intake.specs.Intake.{stopped, paperIntake}
 use Rattle.uslp_cutting.specs.Offering.{Passage, Call, Promised, Offered, joined, Waiting, passage}
-use Rattle.uslp_cutting.proofs.Calls.{stop-stops}
+use Rattle.uslp_intake.proofs.Calls.{stop-stops}
 use Rattle.uslp_cutting.proofs.Cutting.{cutting, from-nothing}
 use Rattle.uslp_counting.specs.Blocks.{Demand3InBlocks}
 use Rattle.uslp_counting.proofs.Blocks.{in-blocks}

@@ -1,2 +1,3 @@
-pub mod Steps
 pub mod Taking
+pub mod Steps
+pub mod Calls
