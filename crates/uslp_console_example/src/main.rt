@@ -1,10 +1,14 @@
-// A console: it hears frames of one channel, and knows which never came, over a restart too.
+// A console: it hears frames of one channel, and knows which never came, over a restart and from octets in blocks too.
 use uslp_hearing::FrameArrival;
 use uslp_hearing::HearAnswer;
 use uslp_hearing::handed_on;
 use uslp_hearing::hear;
+use uslp_hearing::hear_frame;
+use uslp_intake::IntakeAnswer;
+use uslp_intake::take_block;
 use uslp_kinds::DoneAnswer;
 use uslp_kinds::LengthAnswer;
+use uslp_kinds::MAX_FRAME_LEN;
 use uslp_many::hear_many;
 use uslp_record::Channel;
 use uslp_record::ChannelRecord;
@@ -41,6 +45,38 @@ fn replay(channels: ChannelRecord, pass: &[u8]) -> ChannelRecord {
         say(b"octets not heard: ", (pass.len() - stopped) as u64);
     }
     heard.next
+}
+
+// What is kept from one block to the next, beside the octets of the holding buffer.
+struct Link {
+    channels: ChannelRecord,
+    held: usize,
+}
+
+// Octets as the link delivers them, cut anywhere: each frame is heard as soon as it is whole.
+fn receive(link: Link, holding: &mut [u8], block: &[u8]) -> Link {
+    let mut channels = link.channels;
+    let mut held = link.held;
+    let mut place: usize = 0;
+    loop {
+        let answer = take_block(holding, held, &block[place..], false);
+        held = answer.held(held);
+        match answer {
+            IntakeAnswer::Frame { taken, frame } => {
+                let heard = hear_frame(channels, frame);
+                let arrival = heard.answer;
+                let reading = handed_on(arrival, holding);
+                say(b"from blocks, octets handed on: ", reading.len() as u64);
+                channels = heard.next;
+                if taken == 0 {
+                    return Link { channels, held };
+                }
+                place += taken;
+            }
+            // the block is used up, or the reader refuses what is held
+            _ => return Link { channels, held },
+        }
+    }
 }
 
 // The octets outlive the record: written to a file before the console stops, and read from it when it starts.
@@ -82,6 +118,18 @@ fn main() {
         channels,
         b"\xC1\x23\x48\xA6\x00\x0A\x01\x0E\xE4\x0A\xF6\xC1\x23\x48\xA6\x00\x0A\x01\x10\xE4\x0A\xF8\xC1\x23\x48",
     );
+    let mut holding = [0u8; MAX_FRAME_LEN];
+    let mut link = Link { channels, held: 0 };
+    link = receive(link, &mut holding, b"\xC1\x23\x48\xA6\x00");
+    link = receive(link, &mut holding, b"");
+    link = receive(
+        link,
+        &mut holding,
+        b"\x0A\x01\x12\xE4\x0A\xFA\xC1\x23\x48\xA6\x00\x0A\x01\x13\xE4\x0A",
+    );
+    say(b"octets held: ", link.held as u64);
+    link = receive(link, &mut holding, b"\xFB");
+    channels = link.channels;
     match channels.total_missing() {
         TotalAnswer::Done(missing) => say(b"missing in all: ", missing),
         TotalAnswer::Refused(refusal) => say(b"refused: ", refusal.number() as u64),

@@ -100,7 +100,7 @@ abbrev lackedBy : tie.After-lacking Inv-loop μ-loop → ℕ
 lackedBy e = lackingOf (e .before .before .refusal .given .0 .0)
 
 rest-less : (g : tie.Then2 Inv-loop μ-loop) → restOf (g .before) < lackedBy (g .before .before)
-rest-less g = subst (λ (n : ℕ). restOf (g .before) < n) (g .before .before .lacking .ensures) (g .if2 .taken)
+rest-less g = omega (arith, g .before .before .lacking .ensures, g .if2 .taken)
 
 rest-all : (f : tie.Else1 Inv-loop μ-loop) → let l = loopOf (readingOf (f .before)) in l .loop .taken + restOf f ≤ length (startOf l .args .block .now)
 rest-all f = all-of (loopOf (readingOf (f .before)) .loop .inv .inside)
