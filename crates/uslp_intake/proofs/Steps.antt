@@ -163,11 +163,11 @@ module _ {fecf : Bool} {s : List ℕ} {held : ℕ} {block : List ℕ} {taken : �
       (λ e. absurd (let l = lacks-some (take (held + taken) t) fecf (ap short answer ∙ e) in omega (arith, ap lacking answer)))
       (λ e. ap (λ (b : Bool). leaving (done (cond b (waiting taken (held + taken)) (stopped taken (held + taken) k vs))) t) (sym e) ∙ taken-decided answer e)
 
--- with all that it lacks one length more is reached, of six: so a call reads at most seven times
+-- with all that it lacks one length more is reached, of five: so a call reads at most six times
 pub taken-fewer : {fecf : Bool} {s : List ℕ} {held : ℕ} {block : List ℕ} {taken : ℕ} {t t′ : List ℕ} {o : Outcome TransferFrame} (n : ℕ)
     → 65536 ≤ length s → Taken fecf s held block taken t → Taken fecf s held block (taken + n) t′
     → frameReading (take (held + taken) t) fecf ≡ o → n ≡ lacking o → (n ≡ 0 → ⊥)
-    → 6 - reached (take (held + (taken + n)) t′) < 6 - reached (take (held + taken) t)
+    → 5 - reached (take (held + (taken + n)) t′) < 5 - reached (take (held + taken) t)
 taken-fewer {fecf} {s} {held} {block} {taken} {t} {t′} {o} n room i more answer p some =
     let u = take held s ++ take taken block in
     let q = take n (drop taken block) in
@@ -175,7 +175,7 @@ taken-fewer {fecf} {s} {held} {block} {taken} {t} {t′} {o} n room i more answe
     let yes : short (frameReading u fecf) ≡ true =
     ap short read ∙ by-test (short o) (λ e. e) (λ e. absurd (some (p ∙ lacking-none o e))) in
     let long : length q ≡ n = length-take-le n (drop taken block) (omega (arith, more .inside, length-drop taken block)) in
-    let six = asks-further u q fecf yes (long ∙ p ∙ sym (ap lacking read)) in
+    let more-reached = asks-further u q fecf yes (long ∙ p ∙ sym (ap lacking read)) in
     let before = ap reached (taken-front room i) in
     let after : reached (take (held + (taken + n)) t′) ≡ reached (u ++ q) =
     ap reached (taken-front room more ∙ sym (front-more (take held s) block taken n)) in

@@ -1,4 +1,4 @@
--- How many octets SHORT_SOURCE asks for in all, and how often it can be met: six times at the most.
+-- How many octets SHORT_SOURCE asks for in all, and how often it can be met: five times at the most.
 use mathlib.Core.Path.{_≡_, refl, ap, sym, subst}
 use mathlib.Core.Bool.{Bool, true, false, not, cond, _&&_}
 use mathlib.Core.List.{List, [], _∷_, _++_}
@@ -36,10 +36,12 @@ data Awaits (s : List ℕ) : ℕ → Type 0 where
   pointer : lenHeader (headerIn s) + 1 ≤ length s → lenFrame (headerIn s) ≤ length s → length s < lenHeader (headerIn s) + 3
       → Awaits s (lenHeader (headerIn s) + 3)
 
--- these six in the reader's order, and how many of them the octets reach, one after the other
+-- these in the reader's order, and how many of them the octets reach, one after the other. The whole frame and the one octet behind the header are
+-- one length, the larger of the two: octets that lacked the one do not lack the other
 abbrev lengths : List ℕ → List ℕ
 lengths s =
-    4 ∷ 7 ∷ lenHeader (headerIn s) ∷ lenFrame (headerIn s) ∷ (lenHeader (headerIn s) + 1) ∷ (lenHeader (headerIn s) + 3) ∷ []
+    let n = lenHeader (headerIn s) + 1 in
+    4 ∷ 7 ∷ lenHeader (headerIn s) ∷ (n + (lenFrame (headerIn s) - n)) ∷ (lenHeader (headerIn s) + 3) ∷ []
 
 abbrev passing : ℕ → List ℕ → ℕ
 passing n [] = 0
@@ -86,7 +88,7 @@ module _ (s : List ℕ) where
       (field-awaits long (ltb-false (length s) (lenFrame h) a))
       (λ f r. body-awaits h f fecf))
 
-  -- SHORT_SOURCE asks for one of the six
+  -- SHORT_SOURCE asks for one of these
   frame-awaits : (fecf : Bool) → short (frameReading s fecf) ≡ true → Awaits s (length s + lacking (frameReading s fecf))
   unfolding frameReading
   frame-awaits fecf =
@@ -137,7 +139,7 @@ passing-most : (n : ℕ) (ks : List ℕ) → passing n ks ≤ length ks
 passing-most n [] = omega arith
 passing-most n (k ∷ ks) = step-most (ltb n k) (passing n ks) (length ks) (passing-most n ks)
 
-pub reached-most : (s : List ℕ) → reached s ≤ 6
+pub reached-most : (s : List ℕ) → reached s ≤ 5
 unfolding reached
 reached-most s = passing-most (length s) (lengths s)
 
@@ -183,26 +185,36 @@ module _ (s t : List ℕ) where
       let l = length-append s t in
       let p = header-same (omega arith) in
       let q = frame-same (omega arith) in
-      one-more 3 h (omega arith, (omega arith, (omega arith, omega arith)))
+      one-more 3 (omega arith) (omega arith, (omega arith, (omega arith, omega arith)))
   reached-more (rule f g h) e =
       let l = length-append s t in
       let p = header-same (omega arith) in
       let q = frame-same (omega arith) in
-      one-more 4 h (omega arith, (omega arith, (omega arith, (omega arith, omega arith))))
+      one-more 3 (omega arith) (omega arith, (omega arith, (omega arith, omega arith)))
   reached-more (pointer f g h) e =
       let l = length-append s t in
       let p = header-same (omega arith) in
       let q = frame-same (omega arith) in
-      one-more 5 h (omega arith, (omega arith, (omega arith, (omega arith, (omega arith, omega arith)))))
+      one-more 4 h (omega arith, (omega arith, (omega arith, (omega arith, omega arith))))
 
 -- with exactly as many octets as it lacks, the reader gets past the length that it lacked
 pub asks-further : (s t : List ℕ) (fecf : Bool) → short (frameReading s fecf) ≡ true → length t ≡ lacking (frameReading s fecf) → reached s < reached (s ++ t)
 asks-further s t fecf e l = reached-more s t (frame-awaits s fecf e) (ap (λ (n : ℕ). length s + n) l)
 
--- so SHORT_SOURCE is met six times at the most
-asks-left : {fecf : Bool} {s : List ℕ} {n : ℕ} → Asks fecf s n → n + reached s ≤ 6
+-- so SHORT_SOURCE is met five times at the most
+asks-left : {fecf : Bool} {s : List ℕ} {n : ℕ} → Asks fecf s n → n + reached s ≤ 5
 asks-left {fecf} {s} no-more = omega (arith, reached-most s)
 asks-left {fecf} {s} (again t e l more) = omega (arith, asks-left more, asks-further s t fecf e l)
 
-pub asks-six : {fecf : Bool} {s : List ℕ} {n : ℕ} → Asks fecf s n → n ≤ 6
-asks-six a = omega (arith, asks-left a)
+pub asks-five : {fecf : Bool} {s : List ℕ} {n : ℕ} → Asks fecf s n → n ≤ 5
+asks-five a = omega (arith, asks-left a)
+
+-- and it can be: four octets, seven, the count, the frame of nine octets, and its pointer
+pub asks-all : (fecf : Bool) → Asks fecf [] 5
+unfolding frameReading headerReading fieldReading
+asks-all fecf =
+    again (0xC1 ∷ 0x23 ∷ 0x48 ∷ 0xA6 ∷ []) refl refl
+    (again (0x00 ∷ 0x08 ∷ 0x01 ∷ []) refl refl
+    (again (0x07 ∷ []) refl refl
+    (again (0x04 ∷ []) refl refl
+    (again (0x0A ∷ 0xF0 ∷ []) refl refl no-more))))

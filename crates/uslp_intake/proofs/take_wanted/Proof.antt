@@ -1,5 +1,5 @@
 -- `take_wanted` meets its contract. The loop's invariant: so many octets are taken behind those held, and as many are taken in all
--- as these and what is taken behind them. The measure is how many of the reader's six lengths are not reached: so a call reads at most seven times.
+-- as these and what is taken behind them. The measure is how many of the reader's five lengths are not reached: so a call reads at most six times.
 use mathlib.Core.Path.{_≡_, refl, ap, sym, _∙_, subst}
 use mathlib.Core.List.{List}
 use Prim.Native.Nat.{ℕ, _+_, _-_, _<_, _≤_}
@@ -20,7 +20,7 @@ abbrev Inv-loop : tie.InvT-loop
 Inv-loop holding₀ held block has-fecf taken₀ holding taken = Taken has-fecf holding₀ held block taken holding
 
 abbrev μ-loop : tie.MeasureT-loop
-μ-loop holding₀ held block has-fecf taken₀ holding taken = 6 - reached (take (held + taken) holding)
+μ-loop holding₀ held block has-fecf taken₀ holding taken = 5 - reached (take (held + taken) holding)
 
 loop-holds : tie.Need-loop-holds Inv-loop μ-loop
 loop-holds c = taken-none _ _ _ _ (omega arith)
