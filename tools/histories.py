@@ -11,6 +11,8 @@ import shlex
 import subprocess
 import sys
 
+from reading import reading
+
 
 def checksum(octets):
     register = 0xFFFF
@@ -182,31 +184,6 @@ def damaged(rng, sender, frame):
     return bytes(octets)
 
 
-def refusal(octets, fecf):
-    """The reader's answer to octets that begin with a damaged frame; no damage makes a frame's length shorter."""
-    found = len(octets)
-    if found < 4:
-        return f"1 {found} 4"
-    if octets[3] & 1:
-        return "3"
-    if found < 7:
-        return f"1 {found} 7"
-    if octets[0] >> 4 != 12:
-        return f"4 {octets[0] >> 4}"
-    header, total = 7 + (octets[6] & 7), int.from_bytes(octets[4:6], "big") + 1
-    if found < header:
-        return f"1 {found} {header}"
-    if found < total:
-        return f"1 {found} {total}"
-    rule, protocol = octets[header] >> 5, octets[header] & 31
-    if 8 < protocol < 31:
-        return f"5 {protocol}"
-    needed = header + (3 if rule < 3 else 1) + (4 if octets[6] & 8 else 0) + 2 * fecf
-    if total < needed:
-        return f"7 {total} {needed}"
-    return f"6 {int.from_bytes(octets[total - 2 : total], 'big')} {checksum(octets[: total - 2])}"
-
-
 def add(tally, answer):
     """Counts the answer to one frame: NEW, the sum of gaps, REPEAT, LATE, 13, 14, 17."""
     words = answer.split()
@@ -275,7 +252,7 @@ def history(rng, frames):
             rest = damaged(rng, sender, frame)
             if len(rest) == len(frame) and rng.randrange(2):
                 rest += behind.frame(rng, behind.next_place(rng))
-        stop = refusal(rest, fecf) if rest else "0"
+        stop = reading(rest, fecf) if rest else "0"
         say(f"many {fecf} {(octets + rest).hex() or '-'}", f"0 {len(octets)} {' '.join(map(str, tally))} {stop}")
         ask(*link)
         return sent + len(rest[:1])
@@ -303,7 +280,7 @@ def history(rng, frames):
         frame = sender.frame(rng, place)
         if rng.randrange(8) == 0:
             octets = damaged(rng, sender, frame)
-            say(f"hear {sender.fecf} {octets.hex() or '-'}", refusal(octets, sender.fecf))
+            say(f"hear {sender.fecf} {octets.hex() or '-'}", reading(octets, sender.fecf))
         else:
             behind = b"" if rng.randrange(4) else bytes(rng.randrange(256) for _ in range(rng.randrange(9)))
             say(f"hear {sender.fecf} {(frame + behind).hex()}", heard(sender, place))

@@ -26,8 +26,9 @@ use Rattle.uslp_counting.proofs.Instance.{sender, are-sent, begun, call
 use Rattle.uslp_counting.proofs.Witness.{craft}
 
 -- the frame that a call gives out, heard as it was read, is the hearing of the octets at the front of the holding buffer
-pub as-it-comes : (r : ChannelRecord) (fecf : Bool) (s : List ℕ) (held : ℕ) (block t : List ℕ) {n : ℕ} {x : TransferFrame} → Waiting fecf s held → AreOctets block
-    → intaking fecf s held block ≡ leaving (done (frame n x)) t → taken r (judgedFrame r x) ≡ frameHearing r (take (held + n) t) fecf
+pub as-it-comes : (r : ChannelRecord) (fecf : Bool) (s : List ℕ) (held : ℕ) (block t : List ℕ) {n : ℕ} {x : TransferFrame}
+    → Waiting fecf s held → AreOctets block → intaking fecf s held block ≡ leaving (done (frame n x)) t
+    → taken r (judgedFrame r x) ≡ frameHearing r (take (held + n) t) fecf
 as-it-comes r fecf s held block t {n} w oct e = frame-heard r (take (held + n) t) fecf (frame-whole fecf s held block t w oct e .1)
 
 singly-append : (cs ds : List Call) → singly (cs ++ ds) ≡ singly cs ++ singly ds
@@ -51,7 +52,8 @@ module _ (call : intake.Call) (promised : Promised call) (fecf : Bool) (holding 
   among-calls before after =
       let h = asTheyCome fecf p in
       singly-append before (h ++ after)
-      ∙ ap (λ (l : List Call). singly before ++ l) (singly-append h after ∙ ap (λ (l : List Call). l ++ singly after) (singly-hears fecf (p .frames) ∙ stands-for-many))
+      ∙ ap (λ (l : List Call). singly before ++ l)
+      (singly-append h after ∙ ap (λ (l : List Call). l ++ singly after) (singly-hears fecf (p .frames) ∙ stands-for-many))
       ∙ sym (singly-append before (hears-many (joined blocks) fecf ∷ after))
 
 pub in-blocks : (H : Hearer) → Demand3 H → (call : intake.Call) → Promised call → Demand3InBlocks H call
@@ -67,5 +69,7 @@ one-missing-in-blocks call promised holding room blocks p e o =
     let oct : AreOctets (joined blocks) = subst AreOctets (sym e) (are-append (frameAt sender 0) (frameAt sender 2) (are-sent 0) (are-sent 2)) in
     let heard : asTheyCome false p ≡ calls 0 2 =
     stands-for-many call promised false holding room blocks p oct o
-    ∙ ap (λ (l : List ℕ). standsFor (hears-many l false)) e ∙ sym (append-nil (standsFor (hears-many frames false))) ∙ stands in
-    (ap (handed frameHearing craft begun) heard ∙ one-missing .0, ap (λ (cs : List Call). missingFor craft (run frameHearing craft begun cs)) heard ∙ one-missing .1)
+    ∙ ap (λ (l : List ℕ). standsFor (hears-many l false)) e ∙ sym (append-nil (standsFor (hears-many frames false))) ∙ stands in (
+      ap (handed frameHearing craft begun) heard ∙ one-missing .0,
+      ap (λ (cs : List Call). missingFor craft (run frameHearing craft begun cs)) heard ∙ one-missing .1,
+    )

@@ -40,7 +40,8 @@ after = called frameHearing craft back (callOf sender (arrives 2 [])) .1
 
 pub called-heard : Called heard
 called-heard =
-    hears (frameAt sender 0 ++ []) false (are-append (frameAt sender 0) [] (are-sent 0) (λ i. lit< tt)) (subst Called (ap recordOf begins) (opens craft 1 (lit< tt) new))
+    hears (frameAt sender 0 ++ []) false (are-append (frameAt sender 0) [] (are-sent 0) (λ i. lit< tt))
+    (subst Called (ap recordOf begins) (opens craft 1 (lit< tt) new))
 
 -- saved into 354 octets, and restored where no channel is open
 pub restarts : Restart heard back

@@ -89,7 +89,8 @@ module _ (call : Call) (promised : Promised call) (fecf : Bool) where
       let r = drop n block ++ joined blocks in
       let at : kept ≡ u ++ take n block = ap (λ (j : ℕ). take (held + j) t) (sym (a .1)) ∙ stands c ∙ ap (λ (j : ℕ). u ++ take j block) (a .1) in
       let whole : kept ++ r ≡ u ++ (block ++ joined blocks) = ap (λ (l : List ℕ). l ++ r) at ∙ front-rest u block (joined blocks) n in
-      let long : length kept ≡ held + n = ap length at ∙ ap (λ (j : ℕ). length (u ++ take j block)) (sym (a .1)) ∙ gathered-long c ∙ ap (λ (j : ℕ). held + j) (a .1) in
+      let long : length kept ≡ held + n =
+      ap length at ∙ ap (λ (j : ℕ). length (u ++ take j block)) (sym (a .1)) ∙ gathered-long c ∙ ap (λ (j : ℕ). held + j) (a .1) in
       let octets : AreOctets (kept ++ r) = subst AreOctets (sym whole) (are-append u (block ++ joined blocks) (w .octets) oct) in
       let reads : frameReading (kept ++ r) fecf ≡ done x = reading-stays kept r fecf octets (ap short (f .1)) ∙ f .1 in
       let next : p ≡ passage fecf r =
@@ -160,7 +161,8 @@ module _ (call : Call) (promised : Promised call) (fecf : Bool) where
       go (done x) r =
           let e = answers (done x) r in
           let c = called fecf s held block (sym (promised fecf s held block) ∙ e) in
-          let q = ih t 0 (drop n block ∷ blocks) (nothing-held fecf t (omega (arith, stays-long c, c .room))) (are-append (drop n block) (joined blocks) (are-drop n block bo) ro)
+          let q = ih t 0 (drop n block ∷ blocks) (nothing-held fecf t (omega (arith, stays-long c, c .room)))
+          (are-append (drop n block) (joined blocks) (are-drop n block bo) ro)
           (omega (
             arith,
             some-taken fecf u block (w .undecided) (ap short r),

@@ -26,7 +26,8 @@ passage-eq a b c d = λ i. record { frames = a i; place = b i; ending = c i; hel
 
 module _ (fecf : Bool) where
   -- octets that are too short are all taken before others
-  taking-through : (v w b : List ℕ) → AreOctets (v ++ w) → short (frameReading (v ++ w) fecf) ≡ true → taking fecf v (w ++ b) ≡ length w + taking fecf (v ++ w) b
+  taking-through : (v w b : List ℕ) → AreOctets (v ++ w) → short (frameReading (v ++ w) fecf) ≡ true
+      → taking fecf v (w ++ b) ≡ length w + taking fecf (v ++ w) b
   taking-through v [] b oct e = ap (λ (l : List ℕ). taking fecf l b) (sym (append-nil v)) ∙ sym (zero-add (taking fecf (v ++ []) b))
   taking-through v (o ∷ w) b oct e =
       let same : v ++ o ∷ [] ++ w ≡ v ++ (o ∷ w) = append-assoc v (o ∷ []) w in

@@ -113,7 +113,8 @@ module _ (r : Refusal) (s : RefT (List ℕ)) (left : List ℕ) where
       refused-keeps (firstOf (short (now s) n) (done n)) (formOf one q ++ drop n (now s)) (now s) (sym e)
 
 -- the intake's own refusals
-pub take-block-kept : (r : Refusal) (s left : List ℕ) (held : ℕ) (block : List ℕ) (fecf : Bool) → Takes s held block fecf (intake-answer.Refused r) left → left ≡ s
+pub take-block-kept : (r : Refusal) (s left : List ℕ) (held : ℕ) (block : List ℕ) (fecf : Bool) → Takes s held block fecf (intake-answer.Refused r) left
+    → left ≡ s
 take-block-kept r s left held block fecf e = intake-keeps fecf s held block (sym e)
 
 -- a wait and a stop hold what was held and then what was taken, and the rest of the buffer stays

@@ -33,7 +33,9 @@ module _ (fecf : Bool) (s : List ℕ) (held : ℕ) (block : List ℕ) where
 
   pub intaking-done : 65536 ≤ length s → held ≤ 65536
       → intaking fecf s held block
-      ≡ leaving (done (deciding (frameReading (gathered fecf (take held s) block) fecf) (taking fecf (take held s) block) (held + taking fecf (take held s) block)))
+      ≡ leaving
+      (done
+      (deciding (frameReading (gathered fecf (take held s) block) fecf) (taking fecf (take held s) block) (held + taking fecf (take held s) block)))
       (gathered fecf (take held s) block ++ drop (held + taking fecf (take held s) block) s)
   unfolding intaking
   intaking-done room few = rw (le-ltb 65536 held few, le-ltb (length s) 65536 room)
@@ -71,7 +73,8 @@ paste-more : (s : List ℕ) (held : ℕ) (block : List ℕ) (m n : ℕ) → held
 paste-more s held block m n h k =
     let p = paste s held block m in
     let tail : drop (held + m + n) p ≡ drop (held + (m + n)) s =
-    sym (drop-drop n (held + m) p) ∙ ap (drop n) (drop-paste s held block m (omega arith) k) ∙ drop-drop n (held + m) s ∙ ap (λ (j : ℕ). drop j s) (add-assoc held m n) in
+    sym (drop-drop n (held + m) p) ∙ ap (drop n) (drop-paste s held block m (omega arith) k) ∙ drop-drop n (held + m) s
+    ∙ ap (λ (j : ℕ). drop j s) (add-assoc held m n) in
     ap₂ (λ (a b : List ℕ). a ++ take n (drop m block) ++ b) (take-paste s held block m (omega arith) k) tail
     ∙ ap (λ (l : List ℕ). l ++ drop (held + (m + n)) s) (front-more (take held s) block m n)
 
@@ -122,27 +125,37 @@ module _ {fecf : Bool} {s : List ℕ} {held : ℕ} {block : List ℕ} {taken : �
     taken-room h = omega (arith, taken-fits h, taken-long)
 
     -- the block ends before it does
-    pub taken-waits : {t′ : List ℕ} → AreOctets s → AreOctets block → length block - taken < lacking o → t′ ≡ paste t (held + taken) (drop taken block) (length block - taken)
+    pub taken-waits : {t′ : List ℕ} → AreOctets s → AreOctets block → length block - taken < lacking o
+        → t′ ≡ paste t (held + taken) (drop taken block) (length block - taken)
         → leaving (done (waiting (taken + (length block - taken)) (held + taken + (length block - taken)))) t′ ≡ intaking fecf s held block
     taken-waits {t′} so bo h e =
         let n : ℕ = length block - taken in
         let part : length (take n (drop taken block)) ≡ n = length-take-le n (drop taken block) (omega (arith, length-drop taken block)) in
         let all : taking fecf (take held s) block ≡ taken + n =
-        omega (arith, i .least, length-drop taken block, taking-all fecf kept (drop taken block) (kept-octets so bo) (are-drop taken block bo) (omega (arith, ap lacking read, length-drop taken block))) in
+        omega (
+          arith,
+          i .least,
+          length-drop taken block,
+          taking-all fecf kept (drop taken block) (kept-octets so bo) (are-drop taken block bo) (omega (arith, ap lacking read, length-drop taken block)),
+        ) in
         let yet : short (frameReading (take held s ++ take (taken + n) block) fecf) ≡ true =
         ap (λ (l : List ℕ). short (frameReading l fecf)) (sym (front-more (take held s) block taken n))
         ∙ reading-still kept (take n (drop taken block)) fecf
-        (are-append kept (take n (drop taken block)) (kept-octets so bo) (are-take n (drop taken block) (are-drop taken block bo))) (omega (arith, ap lacking read)) in
+        (are-append kept (take n (drop taken block)) (kept-octets so bo) (are-take n (drop taken block) (are-drop taken block bo)))
+        (omega (arith, ap lacking read)) in
         ap₂ (λ (m : ℕ) (l : List ℕ). leaving (done (waiting (taken + n) m)) l) (add-assoc held taken n) (copied-more n e)
-        ∙ ap (λ (d : Intake). leaving (done d) (paste s held block (taken + n))) (sym (deciding-short (frameReading (take held s ++ take (taken + n) block) fecf) _ _ yet))
+        ∙ ap (λ (d : Intake). leaving (done d) (paste s held block (taken + n)))
+        (sym (deciding-short (frameReading (take held s ++ take (taken + n) block) fecf) _ _ yet))
         ∙ intaking-at fecf s held block room (omega (arith, i .few)) (taken + n) all
 
     -- as many as it lacks, and again
-    pub taken-more : {t′ : List ℕ} (n : ℕ) → AreOctets s → AreOctets block → n ≤ lacking o → taken + n ≤ length block → t′ ≡ paste t (held + taken) (drop taken block) n
-        → Taken fecf s held block (taken + n) t′
+    pub taken-more : {t′ : List ℕ} (n : ℕ) → AreOctets s → AreOctets block → n ≤ lacking o → taken + n ≤ length block
+        → t′ ≡ paste t (held + taken) (drop taken block) n → Taken fecf s held block (taken + n) t′
     taken-more {t′} n so bo h l e =
-        let step = taking-step fecf n kept (drop taken block) (kept-octets so bo) (are-drop taken block bo) (omega (arith, ap lacking read)) (omega (arith, length-drop taken block)) in
-        let same : taking fecf (kept ++ take n (drop taken block)) (drop n (drop taken block)) ≡ taking fecf (take held s ++ take (taken + n) block) (drop (taken + n) block) =
+        let step = taking-step fecf n kept (drop taken block) (kept-octets so bo) (are-drop taken block bo) (omega (arith, ap lacking read))
+        (omega (arith, length-drop taken block)) in
+        let same : taking fecf (kept ++ take n (drop taken block)) (drop n (drop taken block))
+        ≡ taking fecf (take held s ++ take (taken + n) block) (drop (taken + n) block) =
         ap₂ (taking fecf) (front-more (take held s) block taken n) (drop-drop n taken block) in
         record {
           inside = l;

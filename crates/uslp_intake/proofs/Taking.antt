@@ -46,10 +46,12 @@ module _ (fecf : Bool) where
       (λ e. omega (arith, taking-none s (o ∷ t) e))
 
   -- below what it lacks, all
-  pub taking-step : (n : ℕ) (s t : List ℕ) → AreOctets s → AreOctets t → n ≤ lacking (frameReading s fecf) → n ≤ length t → taking fecf s t ≡ n + taking fecf (s ++ take n t) (drop n t)
+  pub taking-step : (n : ℕ) (s t : List ℕ) → AreOctets s → AreOctets t → n ≤ lacking (frameReading s fecf) → n ≤ length t
+      → taking fecf s t ≡ n + taking fecf (s ++ take n t) (drop n t)
   taking-step zero s t so to h k = rw (append-nil, zero-add)
   taking-step (suc n) s t so to h k =
-      let short-yet : Short (s ++ take n t) = reading-still s (take n t) fecf (are-append s (take n t) so (are-take n t to)) (omega (arith, length-take-le n t (omega arith))) in
+      let short-yet : Short (s ++ take n t) =
+      reading-still s (take n t) fecf (are-append s (take n t) so (are-take n t to)) (omega (arith, length-take-le n t (omega arith))) in
       let x : ℕ = getD t n 0 in
       let one : taking fecf (s ++ take n t) (drop n t) ≡ suc (taking fecf (s ++ take n t ++ (x ∷ [])) (drop (suc n) t)) =
       ap (taking fecf (s ++ take n t)) (drop-cons t n 0 (omega arith)) ∙ taking-one (s ++ take n t) (drop (suc n) t) x short-yet in

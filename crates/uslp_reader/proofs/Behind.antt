@@ -109,6 +109,7 @@ module _ (s t : List ℕ) (fecf : Bool) where
       let go = by (frameReading s fecf) refl in
       (ap (λ (o : Outcome TransferFrame). contentsRead o (s ++ t)) r ∙ go .0, ap (λ (o : Outcome TransferFrame). contentsReadAt o (s ++ t)) r ∙ go .1)
     where
-      by : (o : Outcome TransferFrame) → frameReading s fecf ≡ o → (contentsRead o (s ++ t) ≡ contentsRead o s) × (contentsReadAt o (s ++ t) ≡ contentsReadAt o s)
+      by : (o : Outcome TransferFrame) → frameReading s fecf ≡ o
+          → (contentsRead o (s ++ t) ≡ contentsRead o s) × (contentsReadAt o (s ++ t) ≡ contentsReadAt o s)
       by (done x) q = let h = data-inside x q in (data-front x h, place-front x h)
       by (refused k vs) q = (refl, refl)

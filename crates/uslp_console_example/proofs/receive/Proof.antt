@@ -22,7 +22,8 @@ Inv-loop holding₀ block channels₀ held₀ place₀ t13 holding channels held
 abbrev μ-loop : tie.MeasureT-loop
 μ-loop holding₀ block channels₀ held₀ place₀ t13 holding channels held place = length block - place
 
-within : (fecf : Bool) (s : List ℕ) (held : ℕ) (block t : List ℕ) (place : ℕ) (a : IntakeAnswer) (n : ℕ) (x : TransferFrame) → place ≤ length block → a ≡ Frame n x
+within : (fecf : Bool) (s : List ℕ) (held : ℕ) (block t : List ℕ) (place : ℕ) (a : IntakeAnswer) (n : ℕ) (x : TransferFrame)
+    → place ≤ length block → a ≡ Frame n x
     → leaving (paperIntake a) t ≡ intaking fecf s held (take (length block - place) (drop place block)) → place + n ≤ length block
 within fecf s held block t place a n x h e f =
     let rest = take (length block - place) (drop place block) in
@@ -39,7 +40,8 @@ callOf c = frameOf c .before .before .before .before .before
 abbrev startOf : tie.Else1 Inv-loop μ-loop → tie.Start Inv-loop μ-loop
 startOf c = callOf c .before .before .before .before .before .before .before
 
-further : (c : tie.Else1 Inv-loop μ-loop) → callOf c .before .before .before .loop .place + frameOf c .answer .given .0 .0 ≤ length (startOf c .args .block .now)
+further : (c : tie.Else1 Inv-loop μ-loop)
+    → callOf c .before .before .before .loop .place + frameOf c .answer .given .0 .0 ≤ length (startOf c .args .block .now)
 further c =
     let l = callOf c .before .before .before in
     within _ _ _ (startOf c .args .block .now) _ (l .loop .place) _ _ _ (l .loop .inv .0) (frameOf c .answer .given .1) (callOf c .take-block .ensures)

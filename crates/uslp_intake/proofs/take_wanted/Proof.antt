@@ -1,6 +1,6 @@
 -- `take_wanted` meets its contract. The loop's invariant: so many octets are taken behind those held, and as many are taken in all
 -- as these and what is taken behind them. The measure is how many of the reader's five lengths are not reached: so a call reads at most six times.
-use mathlib.Core.Path.{_≡_, refl, ap, sym, _∙_, subst}
+use mathlib.Core.Path.{_≡_, refl, ap, sym, _∙_}
 use mathlib.Core.List.{List}
 use Prim.Native.Nat.{ℕ, _+_, _-_, _<_, _≤_}
 use native.Mathlib.Omega.{arith}
@@ -59,10 +59,12 @@ answered : (d : tie.After-from-bytes Inv-loop μ-loop) {r : FrameAnswer} → d .
 answered d e =
     let l = loopOf d in
     let n = startOf l .args .held + l .loop .taken in
-    ap (λ (t : List ℕ). frameReading t (startOf l .args .has-fecf)) (sym (first-part (l .loop .holding) n n refl)) ∙ sym (d .from-bytes .ensures) ∙ ap paperFrame e
+    ap (λ (t : List ℕ). frameReading t (startOf l .args .has-fecf)) (sym (first-part (l .loop .holding) n n refl))
+    ∙ sym (d .from-bytes .ensures) ∙ ap paperFrame e
 
 refused-as : (e : tie.After-lacking Inv-loop μ-loop) → let l = loopOf (readingOf e) in
-    frameReading (take (startOf l .args .held + l .loop .taken) (l .loop .holding)) (startOf l .args .has-fecf) ≡ refusal (e .before .before .refusal .given .0 .0)
+    frameReading (take (startOf l .args .held + l .loop .taken) (l .loop .holding)) (startOf l .args .has-fecf)
+    ≡ refusal (e .before .before .refusal .given .0 .0)
 refused-as e = answered (readingOf e) (e .before .before .refusal .given .1)
 
 add-end : tie.Need-add-end Inv-loop μ-loop
@@ -105,7 +107,8 @@ rest-less g = omega (arith, g .before .before .lacking .ensures, g .if2 .taken)
 rest-all : (f : tie.Else1 Inv-loop μ-loop) → let l = loopOf (readingOf (f .before)) in l .loop .taken + restOf f ≤ length (startOf l .args .block .now)
 rest-all f = all-of (loopOf (readingOf (f .before)) .loop .inv .inside)
 
-rest-fits : (g : tie.Then2 Inv-loop μ-loop) → let l = loopOf (readingOf (g .before .before)) in startOf l .args .held + l .loop .taken + restOf (g .before) ≤ 65536
+rest-fits : (g : tie.Then2 Inv-loop μ-loop) → let l = loopOf (readingOf (g .before .before)) in
+    startOf l .args .held + l .loop .taken + restOf (g .before) ≤ 65536
 rest-fits g = let e = g .before .before in let l = loopOf (readingOf e) in taken-fits (startOf l .pre .1) (l .loop .inv) (refused-as e) (le-of-lt (rest-less g))
 
 hold-requires : tie.Need-hold-requires Inv-loop μ-loop
@@ -157,7 +160,8 @@ loop-again c =
     let g = h .before .before in
     let e = g .before .before in
     let l = loopOf (readingOf e) in
-    taken-more (startOf l .pre .1) (l .loop .inv) (refused-as e) (e .lacking .result) (holding-octets l) (block-octets l) (wanted-lacks e) (wanted-there g) (h .hold2 .ensures)
+    taken-more (startOf l .pre .1) (l .loop .inv) (refused-as e) (e .lacking .result) (holding-octets l) (block-octets l) (wanted-lacks e)
+    (wanted-there g) (h .hold2 .ensures)
 
 add-taken : tie.Need-add-taken Inv-loop μ-loop
 add-taken c = let h = loop-again c .few in omega (arith, h)
