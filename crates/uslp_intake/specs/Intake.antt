@@ -55,12 +55,11 @@ deciding (refused k vs) taken held = cond (eqb k 1) (waiting taken held) (stoppe
 -- are then held stay
 unfoldable pub intaking : Bool → List ℕ → ℕ → List ℕ → Written Intake
 intaking fecf s held block =
+    let n = taking fecf (take held s) block in
+    let kept = gathered fecf (take held s) block in
     written
     (firstOf
     ((ltb 65536 held, refused 10 []) ∷ (ltb (length s) 65536, refused 2 (length s ∷ 65536 ∷ [])) ∷ [])
-    (done
-    (deciding (frameReading (gathered fecf (take held s) block) fecf)
-    (taking fecf (take held s) block)
-    (held + taking fecf (take held s) block))))
-    (gathered fecf (take held s) block ++ drop (held + taking fecf (take held s) block) s)
+    (done (deciding (frameReading kept fecf) n (held + n))))
+    (kept ++ drop (held + n) s)
     s
