@@ -9,6 +9,7 @@ use uslp_intake::take_block;
 use uslp_kinds::DoneAnswer;
 use uslp_kinds::LengthAnswer;
 use uslp_kinds::MAX_FRAME_LEN;
+use uslp_kinds::Refusal;
 use uslp_many::hear_many;
 use uslp_record::Channel;
 use uslp_record::ChannelRecord;
@@ -73,10 +74,22 @@ fn receive(link: Link, holding: &mut [u8], block: &[u8]) -> Link {
                 }
                 place += taken;
             }
-            // the block is used up, or the reader refuses what is held
-            _ => return Link { channels, held },
+            // the block is used up, and what is held is no frame yet
+            IntakeAnswer::Waiting { taken: _, held: _ } => return Link { channels, held },
+            // no more frames come until the console drops what is held
+            IntakeAnswer::Stopped {
+                taken: _,
+                held: _,
+                refusal,
+            } => return stopped(channels, held, refusal),
+            IntakeAnswer::Refused(refusal) => return stopped(channels, held, refusal),
         }
     }
+}
+
+fn stopped(channels: ChannelRecord, held: usize, refusal: Refusal) -> Link {
+    say(b"stopped, refused: ", refusal.number() as u64);
+    Link { channels, held }
 }
 
 // The octets outlive the record: written to a file before the console stops, and read from it when it starts.
@@ -128,7 +141,13 @@ fn main() {
         b"\x0A\x01\x12\xE4\x0A\xFA\xC1\x23\x48\xA6\x00\x0A\x01\x13\xE4\x0A",
     );
     say(b"octets held: ", link.held as u64);
-    link = receive(link, &mut holding, b"\xFB");
+    link = receive(link, &mut holding, b"\xFB\xC1\x23\x48\xA7");
+    link.held = 0;
+    link = receive(
+        link,
+        &mut holding,
+        b"\xC1\x23\x48\xA6\x00\x0A\x01\x14\xE4\x0A\xFC",
+    );
     channels = link.channels;
     match channels.total_missing() {
         TotalAnswer::Done(missing) => say(b"missing in all: ", missing),

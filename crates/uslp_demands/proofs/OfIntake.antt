@@ -11,9 +11,10 @@ use Rattle.uslp_kinds.specs.Answers.{short}
 use Rattle.uslp_kinds.specs.declared.Refusal.the-variants.{Truncated}
 use Rattle.uslp_kinds.proofs.Back.{refusalOf, refusal-back, one-to-one, leaving-one}
 use Rattle.uslp_primary_header.specs.Header.{lenFrame, headerReading}
+use Rattle.uslp_data_field_header.specs.Field.{fieldReading}
 use Rattle.uslp_reader.specs.Reader.{frameReading}
 use Rattle.uslp_reader.specs.declared.TransferFrame.{TransferFrame}
-use Rattle.uslp_roundtrip.specs.Samples.{readF}
+use Rattle.uslp_roundtrip.specs.Samples.{octetsF, readF}
 use Rattle.uslp_intake.specs.Intake.{Intake, waiting, frame, stopped, paperIntake, takenBy, taking}
 use Rattle.uslp_intake.specs.declared.IntakeAnswer.{IntakeAnswer}
 use Rattle.uslp_intake.specs.declared.IntakeAnswer.the-variants.{Waiting, Frame, Stopped, Refused}
@@ -80,6 +81,11 @@ module _ (s : List ℕ) (held : ℕ) (block : List ℕ) (fecf : Bool) (a : Intak
   -- waiting on what the reader refuses otherwise, or gives out
   pub take-block-waits : (n m : ℕ) → a ≡ Waiting n m → short (frameReading (take m left) fecf) ≡ true
   take-block-waits n m f = wait-short fecf s held block left (sym e ∙ ap (λ (b : IntakeAnswer). leaving (paperIntake b) left) f)
+
+-- so of frame F with an octet behind it, eleven octets at the most are taken, whatever the buffer
+pub take-block-greedy : (s : List ℕ) (a : IntakeAnswer) (left : List ℕ) → Takes s 0 (octetsF ++ 0 ∷ []) false a left → takenBy (paperIntake a) ≡ 12 → ⊥
+unfolding frameReading headerReading fieldReading
+take-block-greedy s a left e h = omega (arith, take-block-whole s 0 (octetsF ++ 0 ∷ []) false a left e 11 refl, h)
 
 -- dropping what was held at a wait is shut out by `wait-kept` (Demand1.antt). Waiting on a truncated frame of four octets: it stops, whatever the buffer
 pub take-block-truncated : (s : List ℕ) → 65536 ≤ length s → (fecf : Bool) (a : IntakeAnswer) (left : List ℕ)

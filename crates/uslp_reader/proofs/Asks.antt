@@ -1,7 +1,7 @@
 -- How many octets SHORT_SOURCE asks for in all, and how often it can be met: five times at the most.
 use mathlib.Core.Path.{_≡_, refl, ap, sym, subst}
 use mathlib.Core.Bool.{Bool, true, false, not, cond, _&&_}
-use mathlib.Core.List.{List, [], _∷_, _++_}
+use mathlib.Core.List.{List, [], _∷_, _++_, map}
 use Prim.Native.Nat.{ℕ, zero, suc, _+_, _-_, _<_, _≤_}
 use native.Mathlib.Omega.{arith}
 use borrow.Author.Tests.{ltb-true, ltb-false, lt-ltb, le-ltb}
@@ -218,3 +218,25 @@ asks-all fecf =
     (again (0x07 ∷ []) refl refl
     (again (0x04 ∷ []) refl refl
     (again (0x0A ∷ 0xF0 ∷ []) refl refl no-more))))
+
+-- with exactly as many octets as are lacking the reader may decide, whatever the length that was lacking, but for the count, behind which it looks at
+-- the whole frame: four octets, seven, the whole frame, one and three behind the primary header
+abbrev partial : List (List ℕ × List ℕ)
+partial =
+    (0xC1 ∷ 0x23 ∷ 0x48 ∷ [], 0xA7 ∷ [])
+    ∷ (0xB1 ∷ 0x23 ∷ 0x48 ∷ 0xA6 ∷ [], 0x00 ∷ 0x0A ∷ 0x01 ∷ [])
+    ∷ (0xC1 ∷ 0x23 ∷ 0x48 ∷ 0xA6 ∷ 0x00 ∷ 0x0A ∷ 0x01 ∷ 0x07 ∷ [], 0xE4 ∷ 0x0A ∷ 0xF0 ∷ [])
+    ∷ (0xC1 ∷ 0x23 ∷ 0x48 ∷ 0xA6 ∷ 0x00 ∷ 0x07 ∷ 0x01 ∷ 0x07 ∷ [], 0xE4 ∷ [])
+    ∷ (0xC1 ∷ 0x23 ∷ 0x48 ∷ 0xA6 ∷ 0x00 ∷ 0x08 ∷ 0x01 ∷ 0x07 ∷ 0x04 ∷ [], 0x0A ∷ 0xF0 ∷ [])
+    ∷ []
+
+-- whether octets get SHORT_SOURCE, how many they lack, and whether they get it with the others behind
+abbrev decides : List ℕ × List ℕ → Bool × ℕ × Bool
+decides c = (short (frameReading (c .0) false), lacking (frameReading (c .0) false), short (frameReading (c .0 ++ c .1) false))
+
+abbrev decided : List ℕ × List ℕ → Bool × ℕ × Bool
+decided c = (true, length (c .1), false)
+
+pub may-decide : map decides partial ≡ map decided partial
+unfolding frameReading headerReading fieldReading
+may-decide = refl
