@@ -10,9 +10,9 @@ use Rattle.uslp_octets.proofs.Laws.{are-append}
 use Rattle.uslp_kinds.specs.Outcome.{done, leaving}
 use Rattle.uslp_reader.specs.declared.TransferFrame.{TransferFrame}
 use Rattle.uslp_intake.specs.Intake.{frame, intaking}
-use Rattle.uslp_cutting.specs.Offering.{Passage, Promised, Offered, joined, Waiting}
+use Rattle.uslp_intake.proofs.Calls.{frame-read}
+use Rattle.uslp_cutting.specs.Offering.{Passage, Promised, Offered, joined}
 use Rattle.uslp_cutting.specs.Offering as intake
-use Rattle.uslp_cutting.proofs.Calls.{frame-whole}
 use Rattle.uslp_cutting.proofs.Cutting.{from-nothing}
 use Rattle.uslp_record.specs.Judging.{taken}
 use Rattle.uslp_record.specs.declared.ChannelRecord.{ChannelRecord}
@@ -27,9 +27,9 @@ use Rattle.uslp_counting.proofs.Witness.{craft}
 
 -- the frame that a call gives out, heard as it was read, is the hearing of the octets at the front of the holding buffer
 pub as-it-comes : (r : ChannelRecord) (fecf : Bool) (s : List ℕ) (held : ℕ) (block t : List ℕ) {n : ℕ} {x : TransferFrame}
-    → Waiting fecf s held → AreOctets block → intaking fecf s held block ≡ leaving (done (frame n x)) t
+    → intaking fecf s held block ≡ leaving (done (frame n x)) t
     → taken r (judgedFrame r x) ≡ frameHearing r (take (held + n) t) fecf
-as-it-comes r fecf s held block t {n} w oct e = frame-heard r (take (held + n) t) fecf (frame-whole fecf s held block t w oct e .1)
+as-it-comes r fecf s held block t {n} e = frame-heard r (take (held + n) t) fecf (frame-read fecf s held block t e)
 
 singly-append : (cs ds : List Call) → singly (cs ++ ds) ≡ singly cs ++ singly ds
 singly-append [] ds = refl

@@ -19,7 +19,7 @@ use Rattle.uslp_reader.proofs.Own.{own-octets}
 use Rattle.uslp_reader.proofs.Behind.{reading-before}
 use Rattle.uslp_intake.specs.Intake.{waiting, frame, taking, gathered, intaking}
 use Rattle.uslp_intake.proofs.Taking.{taking-le, taking-least}
-use Rattle.uslp_intake.proofs.Calls.{called, of-waiting, of-frame, held-long, stays-within, stays-long, stands, gathered-long, wait-short}
+use Rattle.uslp_intake.proofs.Calls.{called, of-waiting, of-frame, held-long, stays-within, stays-long, stands, gathered-long, wait-short, frame-read}
 use Rattle.uslp_cutting.specs.Offering.{Waiting}
 
 -- an answer other than SHORT_SOURCE behind octets that had none took an octet
@@ -80,5 +80,5 @@ module _ (fecf : Bool) (s : List ℕ) (held : ℕ) (block t : List ℕ) where
       reading-before (take long before) (drop long before) fecf (subst AreOctets (sym (take-append-drop long before)) octets) yet in
       false≢true (sym (ap short (ap (λ (v : List ℕ). frameReading v fecf) (sym same) ∙ own)) ∙ first) in (
         omega (arith, f .1, early, gathered-long c),
-        ap (λ (j : ℕ). frameReading (take (held + j) t) fecf) (sym (f .1)) ∙ ap (λ (l : List ℕ). frameReading l fecf) (stands c) ∙ f .0,
+        frame-read fecf s held block t e,
       )

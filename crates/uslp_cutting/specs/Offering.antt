@@ -71,6 +71,7 @@ pub record Waiting (fecf : Bool) (s : List ℕ) (held : ℕ) : Type 0 where
   pub octets : AreOctets (take held s)
   pub undecided : short (frameReading (take held s) fecf) ≡ true
 
+-- by the reader's answer to what is left, which is never a frame
 abbrev pub endingOf : Outcome TransferFrame → Ending
 endingOf (done x) = waits
 endingOf (refused k vs) = cond (eqb k 1) waits (stops k vs)

@@ -1,16 +1,18 @@
 -- A refusal of the reader is passed on whole, with all that it carries, by the calls that read first: hearing, judging, the reader that keeps the
--- lent frame.
+-- lent frame, the intake.
 use mathlib.Core.Path.{_≡_, ap, sym, _∙_}
 use mathlib.Core.Bool.{Bool}
-use mathlib.Core.List.{List}
+use mathlib.Core.List.{List, []}
 use Prim.Native.Nat.{ℕ}
 use contract.Lifetimes.{Lfts}
 use denote.Ref.{RefT}
+use lib.ListN.{take}
 use Rattle.uslp_kinds.specs.Outcome.{Outcome, andThen}
 use Rattle.uslp_kinds.specs.declared.Refusal.{Refusal}
 use Rattle.uslp_kinds.proofs.Back.{back, one-to-one}
 use Rattle.uslp_reader.specs.Reader.{paperFrame}
 use Rattle.uslp_reader.specs.declared.TransferFrame.{TransferFrame}
+use Rattle.uslp_reader.specs.declared.FrameAnswer.{FrameAnswer}
 use Rattle.uslp_reader.specs.declared.FrameAnswer.the-variants as frame-answer
 use Rattle.uslp_reader.proofs.Done.{frame-back}
 use Rattle.uslp_record.specs.Judging.{taken}
@@ -24,12 +26,15 @@ use Rattle.uslp_hearing.specs.declared.HearAnswer.the-variants as hear-answer
 use Rattle.uslp_hearing.specs.declared.JudgeAnswer.{JudgeAnswer}
 use Rattle.uslp_hearing.specs.declared.JudgeAnswer.the-variants as judge-answer
 use Rattle.uslp_hearing.proofs.Heard.{hear-back, judge-back}
+use Rattle.uslp_intake.specs.declared.IntakeAnswer.the-variants.{Stopped}
+use Rattle.uslp_intake.proofs.Calls.{stop-read}
 use Rattle.uslp_lent.specs.declared.reader.TransferFrameReader.{TransferFrameReader}
 use Rattle.uslp_lent.proofs.reader.TransferFrameReader as reader
-use Rattle.uslp_demands.specs.Promise.{Allows}
+use Rattle.uslp_demands.specs.Promise.{at, Allows}
 use Rattle.uslp_demands.specs.Clause.{Implies}
 use Rattle.uslp_demands.proofs.Facts.{implies}
 use Rattle.uslp_demands.proofs.OfReader.{fn-from-bytes}
+use Rattle.uslp_demands.proofs.OfIntake.{Takes}
 use Rattle.uslp_demands.proofs.OfHearing.{fn-hear, fn-judge}
 
 -- where the reader may refuse the octets with r
@@ -52,3 +57,10 @@ module _ (κs : Lfts 1) (s : RefT (List ℕ)) (fecf : Bool) (r : Refusal)
       → Implies reader.from_bytes.ended (λ M. reader.from_bytes.clauses) κs (s, (fecf, tt)) (x, (tt, (tt, tt))) (x .found .answer ≡ frame-answer.Refused r)
   lent-passes-on x =
       implies _ _ (λ e. one-to-one paperFrame (back frame-answer.Done frame-answer.Refused) frame-back (e .1 ∙ sym reads))
+
+-- where the intake stops, the reader refuses what is held with that refusal
+pub intake-passes-on : (s : List ℕ) (held : ℕ) (block : List ℕ) (fecf : Bool) (n m : ℕ) (r : Refusal) (left : List ℕ)
+    → Takes s held block fecf (Stopped n m r) left
+    → (x : FrameAnswer) → Allows fn-from-bytes ([], tt) (at (take m left), (fecf, tt)) (x, (tt, (tt, tt))) → x ≡ frame-answer.Refused r
+intake-passes-on s held block fecf n m r left e x reads =
+    one-to-one paperFrame (back frame-answer.Done frame-answer.Refused) frame-back (reads ∙ stop-read fecf s held block left (sym e))

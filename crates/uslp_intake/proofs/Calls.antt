@@ -176,14 +176,25 @@ module _ (fecf : Bool) (s : List ℕ) (held : ℕ) (block t : List ℕ) where
         | no h ↦ omega (arith, taking-le fecf (take held s) block, w .1)
       ]
 
+  -- the reader says of what then stands at the front what the call answers
+  pub stop-read : {n m k : ℕ} {vs : List ℕ} → intaking fecf s held block ≡ leaving (done (stopped n m k vs)) t → frameReading (take m t) fecf ≡ refused k vs
+  stop-read e =
+      let c = called fecf s held block e in
+      let w = of-stopped (frameReading (gathered fecf (take held s) block) fecf) _ _ (c .answer) in
+      ap (λ (j : ℕ). frameReading (take j t) fecf) (sym (w .3)) ∙ ap (λ (l : List ℕ). frameReading l fecf) (stands c) ∙ w .0
+
+  pub frame-read : {n : ℕ} {x : TransferFrame} → intaking fecf s held block ≡ leaving (done (frame n x)) t → frameReading (take (held + n) t) fecf ≡ done x
+  frame-read e =
+      let c = called fecf s held block e in
+      let f = of-frame (frameReading (gathered fecf (take held s) block) fecf) _ _ (c .answer) in
+      ap (λ (j : ℕ). frameReading (take (held + j) t) fecf) (sym (f .1)) ∙ ap (λ (l : List ℕ). frameReading l fecf) (stands c) ∙ f .0
+
   -- after a stop every call takes nothing, writes nothing and stops the same
   pub stop-stops : {n m k : ℕ} {vs : List ℕ} → intaking fecf s held block ≡ leaving (done (stopped n m k vs)) t
       → (next : List ℕ) → intaking fecf t m next ≡ leaving (done (stopped 0 m k vs)) t
   stop-stops {n} {m} {k} {vs} e next =
       let c = called fecf s held block e in
       let w = of-stopped (frameReading (gathered fecf (take held s) block) fecf) _ _ (c .answer) in
-      let r : frameReading (take m t) fecf ≡ refused k vs =
-      ap (λ (j : ℕ). frameReading (take j t) fecf) (sym (w .3)) ∙ ap (λ (l : List ℕ). frameReading l fecf) (stands c) ∙ w .0 in
       let other : eqb k 1 ≡ false = sym (ap short (w .0)) ∙ w .1 in
-      held-decides fecf t m next (omega (arith, stays-long c, c .room)) (omega (arith, stays-within c, w .3)) r other
+      held-decides fecf t m next (omega (arith, stays-long c, c .room)) (omega (arith, stays-within c, w .3)) (stop-read e) other
       ∙ ap (λ (b : Bool). leaving (done (cond b (waiting 0 m) (stopped 0 m k vs))) t) other
