@@ -112,6 +112,28 @@ fn restart(channels: ChannelRecord) -> ChannelRecord {
     }
 }
 
+// What the link delivers: two frames cut anyhow, a truncated one that stops the intake and is dropped, and one more.
+fn from_blocks(channels: ChannelRecord) -> ChannelRecord {
+    let mut holding = [0u8; MAX_FRAME_LEN];
+    let mut link = Link { channels, held: 0 };
+    link = receive(link, &mut holding, b"\xC1\x23\x48\xA6\x00");
+    link = receive(link, &mut holding, b"");
+    link = receive(
+        link,
+        &mut holding,
+        b"\x0A\x01\x12\xE4\x0A\xFA\xC1\x23\x48\xA6\x00\x0A\x01\x13\xE4\x0A",
+    );
+    say(b"octets held: ", link.held as u64);
+    link = receive(link, &mut holding, b"\xFB\xC1\x23\x48\xA7");
+    link.held = 0;
+    link = receive(
+        link,
+        &mut holding,
+        b"\xC1\x23\x48\xA6\x00\x0A\x01\x14\xE4\x0A\xFC",
+    );
+    link.channels
+}
+
 fn main() {
     let opened = ChannelRecord::new().open_channel(
         Channel {
@@ -131,24 +153,7 @@ fn main() {
         channels,
         b"\xC1\x23\x48\xA6\x00\x0A\x01\x0E\xE4\x0A\xF6\xC1\x23\x48\xA6\x00\x0A\x01\x10\xE4\x0A\xF8\xC1\x23\x48",
     );
-    let mut holding = [0u8; MAX_FRAME_LEN];
-    let mut link = Link { channels, held: 0 };
-    link = receive(link, &mut holding, b"\xC1\x23\x48\xA6\x00");
-    link = receive(link, &mut holding, b"");
-    link = receive(
-        link,
-        &mut holding,
-        b"\x0A\x01\x12\xE4\x0A\xFA\xC1\x23\x48\xA6\x00\x0A\x01\x13\xE4\x0A",
-    );
-    say(b"octets held: ", link.held as u64);
-    link = receive(link, &mut holding, b"\xFB\xC1\x23\x48\xA7");
-    link.held = 0;
-    link = receive(
-        link,
-        &mut holding,
-        b"\xC1\x23\x48\xA6\x00\x0A\x01\x14\xE4\x0A\xFC",
-    );
-    channels = link.channels;
+    channels = from_blocks(channels);
     match channels.total_missing() {
         TotalAnswer::Done(missing) => say(b"missing in all: ", missing),
         TotalAnswer::Refused(refusal) => say(b"refused: ", refusal.number() as u64),

@@ -8,9 +8,9 @@ use native.Mathlib.Omega.{arith}
 use native.Mathlib.Nat.{zero-add, add-assoc}
 use lib.Dec.{eqb, lit<}
 use lib.ListN.{length, take, drop, length-append, length-drop, take-append-drop}
-use lib.Seq.{length-take-le, take-length, drop-at}
+use lib.Seq.{length-take-le, take-length}
 use Rattle.uslp_octets.specs.Octets.{AreOctets}
-use Rattle.uslp_octets.proofs.Laws.{are-append, are-front, are-drop}
+use Rattle.uslp_octets.proofs.Laws.{are-append, are-front, are-behind, are-drop}
 use Rattle.uslp_kinds.specs.Outcome.{Outcome, done, refused, leaving}
 use Rattle.uslp_kinds.specs.Answers.{short}
 use Rattle.uslp_primary_header.specs.Header.{headerReading}
@@ -25,10 +25,6 @@ use Rattle.uslp_cutting.specs.Offering.Offered.{no-more, waits-on, gives
 use Rattle.uslp_intake.proofs.Calls.{called, not-refused, of-waiting, of-frame, of-stopped, stays-long, stands, gathered-long, wait-takes}
 use Rattle.uslp_cutting.proofs.Calls.{some-taken, wait-waits, frame-whole}
 use Rattle.uslp_cutting.proofs.Passages.{passage-eq, taking-all-short, taking-past, passage-waits, passage-stops, passage-frame}
-
--- what stands behind octets is octets
-are-behind : (s t : List ℕ) → AreOctets (s ++ t) → AreOctets t
-are-behind s t oct = subst AreOctets (drop-at s t (length s) refl) (are-drop (length s) (s ++ t) oct)
 
 after-after : (m n : ℕ) (p : Passage) → after m (after n p) ≡ after (m + n) p
 after-after m n p = passage-eq refl (sym (add-assoc m n (p .place))) refl refl

@@ -11,8 +11,8 @@ use lib.Pow.{pow-add, pow-pos, mod-pow-add, high, low}
 use lib.Arith.{digits-lt}
 use lib.Dec.{lit<}
 use lib.ListN.{length, take, drop, getD, set, length-take, length-drop, List·getD-append, List·getD-eq-default}
-use lib.Seq.{getD-append-add, getD-drop, getD-take, take-suc, append-snoc, set-at, length-take-le, take-length, take-at}
-use Rattle.uslp_octets.specs.Octets.{AreOctets, Field, bitsIn, valueOf, Fits, split, octets, pack, unpack, word}
+use lib.Seq.{getD-append-add, getD-drop, getD-take, take-suc, append-snoc, set-at, length-take-le, take-length, take-all, take-at, drop-at}
+use Rattle.uslp_octets.specs.Octets.{AreOctets, Field, bitsIn, valueOf, Fits, split, octets, pack, unpack, word, overlaid}
 
 pub pow-eight : (w : ℕ) → 2 ^ (8 * w) ≡ 256 ^ w
 pow-eight zero = refl
@@ -204,9 +204,12 @@ are-number zero n i = lit< tt
 are-number (suc k) n zero = mod-lt (n / 256 ^ k) (lit< tt)
 are-number (suc k) n (suc i) = are-number k n i
 
--- and so is what octets are a front of, without what stands behind it
+-- and so are the two parts of octets
 pub are-front : (s t : List ℕ) → AreOctets (s ++ t) → AreOctets s
 are-front s t oct = subst AreOctets (take-at s t (length s) refl) (are-take (length s) (s ++ t) oct)
+
+pub are-behind : (s t : List ℕ) → AreOctets (s ++ t) → AreOctets t
+are-behind s t oct = subst AreOctets (drop-at s t (length s) refl) (are-drop (length s) (s ++ t) oct)
 
 -- a word of a part of the octets stands in the whole of them
 pub word-drop : (i j n : ℕ) (s : List ℕ) → word j n (drop i s) ≡ word (i + j) n s
@@ -216,6 +219,10 @@ word-drop i j (suc n) s = rw (word-drop i j n s, getD-drop, add-assoc)
 pub word-take : (i n k : ℕ) (s : List ℕ) → i + n ≤ k → word i n (take k s) ≡ word i n s
 word-take i zero k s h = refl
 word-take i (suc n) k s h = rw (word-take i n k s (omega arith), getD-take k s (i + n) 0 (omega arith))
+
+-- octets laid over others that have room for them
+pub overlaid-fits : (s t : List ℕ) → length s ≤ length t → overlaid s t ≡ s ++ drop (length s) t
+overlaid-fits s t h = ap (λ (l : List ℕ). l ++ drop (length s) t) (take-all (length t) s h)
 
 -- what stands at the front of octets stands there with others behind
 pub word-front : (s t : List ℕ) (i n : ℕ) → i + n ≤ length s → word i n (s ++ t) ≡ word i n s

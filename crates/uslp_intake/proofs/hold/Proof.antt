@@ -5,16 +5,16 @@ use Prim.Native.Nat.{ℕ, _+_, _-_, _≤_}
 use native.Mathlib.Omega.{arith}
 use borrow.Rule.Slice.PartMut.{putMid, midOf}
 use lib.ListN.{length, take, drop, length-drop, drop-of-length-le}
-use lib.Seq.{paste, take-all, length-take-le, drop-drop}
+use lib.Seq.{paste, length-take-le, drop-drop}
 use Rattle.uslp_octets.specs.Octets.{overlaid}
+use Rattle.uslp_octets.proofs.Laws.{overlaid-fits}
 use borrow.Author.Needs.{needs}
 use Rattle.uslp_intake.proofs.hold.Statement.{statement}
 use Rattle.uslp_intake.proofs.hold.Tie as tie
 
 -- a part laid over one of its length
 over-all : (p q : List ℕ) → length p ≡ length q → overlaid p q ≡ p
-over-all p q e =
-    ap₂ (λ (a b : List ℕ). a ++ b) (take-all (length q) p (omega arith)) (drop-of-length-le q {i = length p} (omega arith)) ∙ append-nil p
+over-all p q e = overlaid-fits p q (omega arith) ∙ ap (λ (l : List ℕ). p ++ l) (drop-of-length-le q {i = length p} (omega arith)) ∙ append-nil p
 
 held-part : (h b : List ℕ) (at from n : ℕ) (ys : List ℕ) → at + n ≤ length h → from + n ≤ length b
     → ys ≡ overlaid (take (from + n - from) (drop from b)) (midOf at (at + n - at) h) → putMid at (at + n - at) h ys ≡ paste h at (drop from b) n
