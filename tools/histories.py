@@ -1,7 +1,8 @@
 #!/usr/bin/env python3
-"""Tries demand 3 from outside: random senders, a link that loses, repeats, reorders and damages frames of several channels within
-the window, frames heard one at a time or several end to end, restarts of the console, and a count of its own, over the places sent, of
-what was never handed on. Every answer of the program is compared, and every octet that it saves.
+"""Tries demand 3 from outside: random senders, most with sequence-controlled and expedited frames numbered apart, a link that loses,
+repeats, reorders and damages frames of several channels within the window, frames heard one at a time or several end to end, restarts
+of the console, and a count of its own, over the places sent, of what was never handed on. Every answer of the program is compared, and
+every octet that it saves.
 
 Usage: histories.py PROGRAM [HISTORIES [FRAMES [SEED]]]     (PROGRAM is what runs uslp_run, as 'tools/run uslp_run'; default 100, 1000)
        histories.py --write DIR PROGRAM HISTORIES FRAMES SEED    writes the commands and the program's answers to DIR/stdin, DIR/stdout
@@ -25,18 +26,14 @@ def checksum(octets):
 
 
 class Sender:
-    """One channel: its frame at a place, and what the record is to say of it."""
+    """One channel, a spacecraft with a number and a bypass flag: its frame at a place, and what the record is to say of it."""
 
-    def __init__(self, rng, taken):
-        while True:
-            self.key = (rng.choice([0, 7, 0x1234, 0xFFFF]), rng.randrange(64))
-            if self.key not in taken:
-                break
+    def __init__(self, rng, key, fecf):
+        self.key = key
         self.width = rng.choice([1, 1, 1, 2, 2, 3, 4, 5, 6, 7])
         self.counts = 256 ** self.width
         self.start = rng.choice([0, 1, self.counts - 1, rng.randrange(self.counts)])
-        self.fecf = rng.randrange(2)
-        self.header = (rng.randrange(2), rng.randrange(16), rng.randrange(2), rng.randrange(2), rng.randrange(4))
+        self.fecf = fecf
         self.data = {}
         self.counted = (frozenset(), None, None, 0, 0)
 
@@ -55,10 +52,11 @@ class Sender:
         if place not in self.data:
             rule = rng.randrange(8)
             ocf = bytes(rng.randrange(256) for _ in range(4)) if rng.randrange(4) == 0 else b""
-            self.data[place] = (rule, rng.choice([0, 1, 2, 3, 4, 5, 6, 7, 8, 31]), ocf, bytes(rng.randrange(256) for _ in range(rng.randrange(12))))
-        rule, protocol, ocf, data = self.data[place]
-        craft, channel = self.key
-        dest, map_id, bypass, command, spare = self.header
+            data = bytes(rng.randrange(256) for _ in range(rng.randrange(12)))
+            bits = rng.randrange(2), rng.randrange(16), rng.randrange(2), rng.randrange(4)
+            self.data[place] = (rule, rng.choice([0, 1, 2, 3, 4, 5, 6, 7, 8, 31]), ocf, data, bits)
+        rule, protocol, ocf, data, (dest, map_id, command, spare) = self.data[place]
+        craft, channel, bypass = self.key
         total = 7 + width + (3 if rule < 3 else 1) + len(data) + len(ocf) + 2 * self.fecf
         octets = bytearray([0xC0 | craft >> 12, craft >> 4 & 255, (craft & 15) << 4 | dest << 3 | channel >> 3, (channel & 7) << 5 | map_id << 1])
         octets += (total - 1).to_bytes(2, "big")
@@ -125,8 +123,8 @@ class Sender:
 
 
 def form(opened):
-    """The open channels as octets of form 1."""
-    senders = [opened[key] for key in sorted(opened)]
+    """The open channels as octets of form 1, which has the sequence-controlled ones alone."""
+    senders = [opened[key] for key in sorted(opened) if key[2] == 0]
     sections = [[s.entry() for s in senders if s.first is None], [s.entry() for s in senders if s.first is not None]]
     return b"".join(bytes([len(entries)]) + b"".join(entries) for entries in sections)
 
@@ -194,11 +192,13 @@ def add(tally, answer):
 
 
 def history(rng, frames):
+    """The commands, the answers that are due, and how many frames came while both flags of their channel were open."""
     senders = {}
     for _ in range(rng.randint(1, 6)):
-        sender = Sender(rng, senders)
-        senders[sender.key] = sender
-    opened, saved, commands, answers = {}, [], [], []
+        craft, channel, flag, fecf = rng.choice([0, 7, 0x1234, 0xFFFF]), rng.randrange(64), rng.randrange(2), rng.randrange(2)
+        for bypass in (flag, 1 - flag) if rng.randrange(4) else (flag,):
+            senders.setdefault((craft, channel, bypass), Sender(rng, (craft, channel, bypass), fecf))
+    opened, saved, commands, answers, mixed, closes = {}, [], [], [], 0, rng.randrange(3)
 
     def say(command, answer):
         commands.append(command)
@@ -206,14 +206,32 @@ def history(rng, frames):
 
     def ask(*asked):
         for sender in asked:
-            say(f"show {sender.key[0]} {sender.key[1]}", sender.shown() if sender.key in opened else "13")
+            say("show %d %d %d" % sender.key, sender.shown() if sender.key in opened else "13")
         say("total", "0 %d" % sum(s.missing() for s in opened.values()))
 
+    def start(sender):
+        full = len(opened) == 8
+        say("open %d %d %d %d" % (*sender.key, sender.width), "16" if full else "0")
+        if not full:
+            opened[sender.key] = sender
+
+    def end(sender):
+        say("close %d %d %d" % sender.key, "0")
+        del opened[sender.key]
+        sender.counted = (frozenset(), None, None, 0, 0)
+
     def restart():
-        """Saves, with room or without; restores what was saved, whatever happened since; or tries octets that are no good form."""
+        """Saves, with room or without, behind a closing of the expedited channels where the console closes them; restores what was saved,
+        whatever happened since; or tries octets that are no good form."""
         octets = form(opened)
         kind = rng.randrange(4)
-        if kind == 0:
+        expedited = [sender for key, sender in opened.items() if key[2] == 1]
+        if kind < 2 and closes and rng.randrange(4):
+            while expedited:
+                end(expedited.pop())
+        if kind < 2 and expedited:
+            say(f"save {rng.choice([0, len(octets), 354])}", "19")
+        elif kind == 0:
             room = len(octets) + rng.randrange(3)
             say(f"save {room}", f"0 {len(octets)} {octets.hex()}{'ee' * (room - len(octets))}")
             saved.append((octets, {key: sender.counted for key, sender in opened.items()}))
@@ -234,6 +252,8 @@ def history(rng, frames):
                 say(f"restore {octets.hex() or '-'}", "18")
 
     def heard(sender, place):
+        nonlocal mixed
+        mixed += all((*sender.key[:2], flag) in opened for flag in (0, 1))
         return sender.arrives(place) if sender.key in opened else "13"
 
     def several(fecf):
@@ -257,20 +277,17 @@ def history(rng, frames):
         ask(*link)
         return sent + len(rest[:1])
 
-    studied = next(iter(senders.values()))
-    say(f"open {studied.key[0]} {studied.key[1]} {studied.width}", "0")
-    opened[studied.key] = studied
+    first = next(iter(senders))
+    studied = [sender for key, sender in senders.items() if key[:2] == first[:2]]
+    for sender in studied:
+        start(sender)
     sent = 0
     while sent < frames:
-        sender = studied if rng.randrange(3) else rng.choice(list(senders.values()))
-        if sender is not studied and rng.randrange(12) == 0:
-            if sender.key in opened:
-                say(f"close {sender.key[0]} {sender.key[1]}", "0")
-                del opened[sender.key]
-                sender.counted = (frozenset(), None, None, 0, 0)
-            else:
-                say(f"open {sender.key[0]} {sender.key[1]} {sender.width}", "0")
-                opened[sender.key] = sender
+        sender = rng.choice(studied if rng.randrange(3) else list(senders.values()))
+        if sender.key not in opened and rng.randrange(4) == 0:
+            start(sender)
+        elif sender.key in opened and sender not in studied and rng.randrange(12) == 0:
+            end(sender)
         if rng.randrange(20) == 0:
             restart()
         if rng.randrange(12) == 0:
@@ -286,7 +303,7 @@ def history(rng, frames):
             say(f"hear {sender.fecf} {(frame + behind).hex()}", heard(sender, place))
         ask(sender)
         sent += 1
-    return commands, answers
+    return commands, answers, mixed
 
 
 def ask_program(program, commands):
@@ -313,21 +330,22 @@ def main():
         sys.exit(__doc__)
     program = words[0]
     number, frames, seed = (int(w) for w in (words[1:] + ["100", "1000", "1"][len(words) - 1:]))
-    steps, at_once, all_commands = 0, 0, []
+    steps, at_once, mixed, all_commands = 0, 0, 0, []
     for k in range(number):
-        commands, answers = history(random.Random(seed * 1000003 + k), frames)
+        commands, answers, both = history(random.Random(seed * 1000003 + k), frames)
         wrong = compare(program, commands, answers)
         if wrong:
             sys.exit(f"history {k} of seed {seed}: {wrong}")
         steps += len(commands)
         at_once += sum(c.startswith("many ") for c in commands)
+        mixed += both
         all_commands += commands + ["restore 0000"]
     if out:
         with open(out + "/stdin", "w") as f:
             f.write("".join(c + "\n" for c in all_commands))
         with open(out + "/stdout", "w") as f:
             f.write("".join(a + "\n" for a in ask_program(program, all_commands)))
-    print(f"{number} histories of {frames} frames, {steps} answers, {at_once} of them to many, all equal")
+    print(f"{number} histories of {frames} frames, {steps} answers, {at_once} of them to many, all equal; {mixed} frames with both flags of their channel open")
 
 
 main()

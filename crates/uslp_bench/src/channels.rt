@@ -3,12 +3,14 @@ use uslp_answers::channels::say_done;
 use uslp_answers::channels::say_heard;
 use uslp_answers::channels::say_state;
 use uslp_answers::channels::say_total;
+use uslp_answers::values::BYPASS;
 use uslp_answers::values::FECF;
 use uslp_answers::values::SCID;
 use uslp_answers::values::VC;
 use uslp_answers::values::Values;
 use uslp_answers::values::WIDTH;
 use uslp_answers::values::octet_of;
+use uslp_kinds::BypassSequenceControlFlag;
 use uslp_record::Channel;
 use uslp_record::ChannelRecord;
 use uslp_record::Recorded;
@@ -57,5 +59,6 @@ fn channel_of(values: &Values) -> Channel {
     Channel {
         spacecraft_id: (values[SCID] % 65536) as u16,
         vc_id: octet_of(values[VC]),
+        sequence_control_flag: BypassSequenceControlFlag::from_number(octet_of(values[BYPASS])),
     }
 }

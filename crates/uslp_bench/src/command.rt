@@ -98,10 +98,10 @@ fr fecf hex
 hw scid dest vc map total bypass pcc ocfflag width count buflen
 fw scid dest vc map bypass pcc ocfflag width count rule pid ptr ocf fecf buflen hex
 rw scid dest vc map bypass pcc ocfflag width count rule pid ptr ocf fecf buflen hex
-open scid vc width
-close scid vc
+open scid vc bypass width
+close scid vc bypass
 hear fecf hex
-show scid vc
+show scid vc bypass
 total
 save buflen
 restore hex

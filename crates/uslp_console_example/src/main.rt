@@ -6,6 +6,7 @@ use uslp_hearing::hear;
 use uslp_hearing::hear_frame;
 use uslp_intake::IntakeAnswer;
 use uslp_intake::take_block;
+use uslp_kinds::BypassSequenceControlFlag;
 use uslp_kinds::DoneAnswer;
 use uslp_kinds::LengthAnswer;
 use uslp_kinds::MAX_FRAME_LEN;
@@ -139,6 +140,7 @@ fn main() {
         Channel {
             spacecraft_id: 0x1234,
             vc_id: 5,
+            sequence_control_flag: BypassSequenceControlFlag::SequenceControlledQoS,
         },
         1,
     );

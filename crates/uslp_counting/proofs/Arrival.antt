@@ -18,10 +18,10 @@ use Rattle.uslp_record.specs.declared.Arrival.the-variants.{New, Repeat, Late}
 use Rattle.uslp_record.specs.declared.Change.{Change}
 use Rattle.uslp_record.proofs.Count.{counts-positive, arrives-again, arrives-new, arrives-late}
 use Rattle.uslp_record.proofs.Hears.{judged-full, judged-done}
-use Rattle.uslp_record.proofs.Slots.{same-self}
+use Rattle.uslp_record.proofs.Slots.{same-self, same-one}
 use Rattle.uslp_reader.specs.Reader.{frameReading, contentsIn}
 use Rattle.uslp_reader.specs.declared.TransferFrame.{TransferFrame}
-use Rattle.uslp_hearing.specs.Hearing.{channelOf, frameArrival, withFrame, judgedFrame, frameHearing}
+use Rattle.uslp_hearing.specs.Hearing.{Naming, frameArrival, withFrame, judgedBy, hearingBy}
 use Rattle.uslp_hearing.specs.declared.FrameArrival.the-variants as frame-arrival
 use Rattle.uslp_roundtrip.specs.Laid.{frameOf}
 use Rattle.uslp_roundtrip.proofs.Complete.{complete, complete-contents}
@@ -29,8 +29,9 @@ use Rattle.uslp_counting.specs.History.{answerOf, handing, Roomy, Sender
 use Rattle.uslp_counting.specs.History.Call.{hears}
 use Rattle.uslp_counting.proofs.Ahead.{half-twice, ahead-on, ahead-back}
 use Rattle.uslp_counting.proofs.Stands.{Stands}
+use Rattle.uslp_counting.proofs.Agrees.{Agrees}
 
-module _ {K : Channel} {width : ℕ} {fecf : Bool} (S : Sender K width fecf) where
+module _ {name : Naming} {K : Channel} {width : ℕ} {fecf : Bool} (S : Sender name K width fecf) where
   -- the count at a place, and the frame that the reader finds there
   abbrev pub countAt : ℕ → ℕ
   countAt p = (S .start + p) % 256 ^ width
@@ -39,36 +40,38 @@ module _ {K : Channel} {width : ℕ} {fecf : Bool} (S : Sender K width fecf) whe
   sentAt p = frameOf (S .header p) (S .field p) (S .contents p) (S .ocf p)
 
   module _ (p : ℕ) (behind : List ℕ) where
-    reads : frameReading (frameAt S p ++ behind) fecf ≡ done (sentAt p)
+    pub reads : frameReading (frameAt S p ++ behind) fecf ≡ done (sentAt p)
     reads = complete fecf (S .spare p) (S .header p) (S .field p) (S .contents p) (S .ocf p) behind (S .spare-fits p) (S .well-formed p)
 
-    same-here : sameChannel (channelOf (S .header p)) K ≡ true
+    same-here : sameChannel (name (S .header p)) K ≡ true
     same-here = ap (λ (k : Channel). sameChannel k K) (S .of-channel p) ∙ same-self K
 
     -- what is handed on where the answer is NEW
-    pub handing-new : (gap : ℕ) → handing K (frameAt S p ++ behind) (done (frame-arrival.New gap (sentAt p))) ≡ handingAt S gap p ∷ []
+    pub handing-new : (gap : ℕ) → handing name K (frameAt S p ++ behind) (done (frame-arrival.New gap (sentAt p))) ≡ handingAt S gap p ∷ []
     handing-new gap =
         ap (λ (b : Bool). cond b ((gap, sentAt p, contentsIn (sentAt p) (frameAt S p ++ behind)) ∷ []) []) same-here
         ∙ ap (λ (l : List ℕ). (gap, sentAt p, l) ∷ [])
         (complete-contents fecf (S .spare p) (S .header p) (S .field p) (S .contents p) (S .ocf p) behind (S .spare-fits p) (S .well-formed p))
 
-    module _ (r : ChannelRecord) (t : SlotState) (at : Stands K r t) (hi : width ≤ 7) (wide : width ≡ widthAt t) where
-      frame-heard : frameHearing r (frameAt S p ++ behind) fecf ≡ taken r (withFrame (sentAt p) (judging r K width (countAt p)))
+    -- a console that names channels by `by`, which agrees on this frame
+    module _ (by : Naming) (agree : Agrees name by K (hears (frameAt S p ++ behind) fecf)) (r : ChannelRecord) (t : SlotState) (at : Stands K r t)
+        (hi : width ≤ 7) (wide : width ≡ widthAt t) where
+      frame-heard : hearingBy by r (frameAt S p ++ behind) fecf ≡ taken r (withFrame (sentAt p) (judging r K width (countAt p)))
       frame-heard =
-          ap (λ (o : Outcome TransferFrame). taken r (andThen o (judgedFrame r))) reads
+          ap (λ (o : Outcome TransferFrame). taken r (andThen o (judgedBy by r))) reads
           ∙ ap (λ (k : Channel). taken r (withFrame (sentAt p) (judging r k (S .header p .«vc_frame_count_len») (S .header p .«vc_frame_count»))))
-          (S .of-channel p)
+          (same-one (by (S .header p)) K (agree (sentAt p) reads ∙ same-here))
           ∙ ap (λ (w : ℕ). taken r (withFrame (sentAt p) (judging r K w (S .header p .«vc_frame_count»)))) (S .of-width p)
           ∙ ap (λ (n : ℕ). taken r (withFrame (sentAt p) (judging r K width n))) (S .numbered p)
 
       pub arrival-done : overfull (totalsAt t (countAt p)) ≡ false
-          → frameHearing r (frameAt S p ++ behind) fecf
+          → hearingBy by r (frameAt S p ++ behind) fecf
           ≡ keeping (done (frameArrival (sentAt p) (arrivalAt t (countAt p)))) (put r (find K (r .slots)) (Heard K width (totalsAt t (countAt p))))
       arrival-done e = frame-heard ∙ ap (λ (o : Outcome (Arrival × Change)). taken r (withFrame (sentAt p) o))
           (judged-done r K width (countAt p) hi (at .there) t (at .state) wide e)
 
       -- a hearing that does not get TOTAL_FULL, and totals that are not full
-      pub room-in : Roomy frameHearing K r (hears (frameAt S p ++ behind) fecf) → overfull (totalsAt t (countAt p)) ≡ false
+      pub room-in : Roomy name (hearingBy by) K r (hears (frameAt S p ++ behind) fecf) → overfull (totalsAt t (countAt p)) ≡ false
       room-in room = go (overfull (totalsAt t (countAt p))) refl
         where
           go : (b : Bool) → overfull (totalsAt t (countAt p)) ≡ b → b ≡ false
@@ -80,7 +83,7 @@ module _ {K : Channel} {width : ℕ} {fecf : Bool} (S : Sender K width fecf) whe
               (judged-full r K width (countAt p) hi (at .there) t (at .state) wide e))))
           go false e = refl
 
-      pub room-out : overfull (totalsAt t (countAt p)) ≡ false → Roomy frameHearing K r (hears (frameAt S p ++ behind) fecf)
+      pub room-out : overfull (totalsAt t (countAt p)) ≡ false → Roomy name (hearingBy by) K r (hears (frameAt S p ++ behind) fecf)
       room-out e x d same f = not-done (sym (sym (ap answerOf (arrival-done e)) ∙ f))
 
   -- p arrives after the furthest was q

@@ -16,7 +16,7 @@ use Rattle.uslp_cutting.specs.Offering as intake
 use Rattle.uslp_cutting.proofs.Cutting.{from-nothing}
 use Rattle.uslp_record.specs.Judging.{taken}
 use Rattle.uslp_record.specs.declared.ChannelRecord.{ChannelRecord}
-use Rattle.uslp_hearing.specs.Hearing.{judgedFrame, frameHearing}
+use Rattle.uslp_hearing.specs.Hearing.{Naming, channelOf, judgedFrame, frameHearing}
 use Rattle.uslp_hearing.proofs.Heard.{frame-heard}
 use Rattle.uslp_counting.specs.History.{Hearer, Call, run, handed, standsFor, singly, missingFor, frameAt, handingAt}
 use Rattle.uslp_counting.specs.History.Call.{hears, hears-many}
@@ -56,20 +56,20 @@ module _ (call : intake.Call) (promised : Promised call) (fecf : Bool) (holding 
       (singly-append h after ∙ ap (λ (l : List Call). l ++ singly after) (singly-hears fecf (p .frames) ∙ stands-for-many))
       ∙ sym (singly-append before (hears-many (joined blocks) fecf ∷ after))
 
-pub in-blocks : (H : Hearer) → Demand3 H → (call : intake.Call) → Promised call → Demand3InBlocks H call
-in-blocks H demand call promised K width fecf S lo hi r₀ r long begins choice holding blocks p room oct o before after es stand near unfull =
+pub in-blocks : (name : Naming) (H : Hearer) → Demand3 name H → (call : intake.Call) → Promised call → Demand3InBlocks name H call
+in-blocks name H demand call promised K width fecf S lo hi r₀ r long begins choice holding blocks p room oct o before after es stand near unfull =
     demand K width fecf S lo hi r₀ r long begins es _ (among-calls call promised choice holding room blocks p oct o before after ∙ stand) near unfull
 
 -- the places 0 and 2 of the oven, their octets cut anyhow: both are handed on, and one is missing
 pub one-missing-in-blocks : (call : intake.Call) → Promised call → (holding : List ℕ) → 65536 ≤ length holding
     → (blocks : List (List ℕ)) (p : Passage) → joined blocks ≡ frames → Offered call false holding 0 blocks p
-    → (handed frameHearing craft begun (asTheyCome false p) ≡ handingAt sender 0 0 ∷ handingAt sender 1 2 ∷ [])
-    × (missingFor craft (run frameHearing craft begun (asTheyCome false p)) ≡ 1)
+    → (handed channelOf frameHearing craft begun (asTheyCome false p) ≡ handingAt sender 0 0 ∷ handingAt sender 1 2 ∷ [])
+    × (missingFor craft (run channelOf frameHearing craft begun (asTheyCome false p)) ≡ 1)
 one-missing-in-blocks call promised holding room blocks p e o =
     let oct : AreOctets (joined blocks) = subst AreOctets (sym e) (are-append (frameAt sender 0) (frameAt sender 2) (are-sent 0) (are-sent 2)) in
     let heard : asTheyCome false p ≡ calls 0 2 =
     stands-for-many call promised false holding room blocks p oct o
     ∙ ap (λ (l : List ℕ). standsFor (hears-many l false)) e ∙ sym (append-nil (standsFor (hears-many frames false))) ∙ stands in (
-      ap (handed frameHearing craft begun) heard ∙ one-missing .0,
-      ap (λ (cs : List Call). missingFor craft (run frameHearing craft begun cs)) heard ∙ one-missing .1,
+      ap (handed channelOf frameHearing craft begun) heard ∙ one-missing .0,
+      ap (λ (cs : List Call). missingFor craft (run channelOf frameHearing craft begun cs)) heard ∙ one-missing .1,
     )

@@ -1,6 +1,6 @@
 -- Every record that calls made, restorings among them: its console total, and that a saving of it comes back.
 use mathlib.Core.Path.{_≡_, refl, sym, subst}
-use mathlib.Core.Bool.{Bool}
+use mathlib.Core.Bool.{Bool, false}
 use mathlib.Core.List.{List, [], _∷_, _++_, map}
 use Prim.Native.Nat.{ℕ, _≤_}
 use lib.ListN.{length, drop}
@@ -12,7 +12,7 @@ use Rattle.uslp_record.specs.Made.{Made}
 use Rattle.uslp_record.specs.declared.Channel.{Channel}
 use Rattle.uslp_record.specs.declared.ChannelRecord.{ChannelRecord}
 use Rattle.uslp_record.proofs.Keeps.{made-empty, made-opening, made-closing}
-use Rattle.uslp_form.specs.Form.{Form, formOf, restored}
+use Rattle.uslp_form.specs.Form.{Form, anyLacks, formOf, restored}
 use Rattle.uslp_form.specs.Saved.{saving, Restoring}
 use Rattle.uslp_form.specs.Saved.Restoring.{good, bad}
 use Rattle.uslp_form.proofs.Trips.{entriesOf, made-good}
@@ -20,22 +20,20 @@ use Rattle.uslp_form.proofs.Rows.{sound-fits, restores-done}
 use Rattle.uslp_form.proofs.Claims.{saving-done, Back, restores-saved, comes-back}
 use Rattle.uslp_reader.specs.EndToEnd.{cut}
 use Rattle.uslp_reader.specs.declared.TransferFrame.{TransferFrame}
-use Rattle.uslp_hearing.specs.Hearing.{frameHearing}
+use Rattle.uslp_hearing.specs.Hearing.{channelOf, frameHearing}
 use Rattle.uslp_hearing.specs.declared.FrameArrival.{FrameArrival}
 use Rattle.uslp_hearing.proofs.Ways.{made-hearing}
 use Rattle.uslp_many.specs.Many.{noFrames, tallyOf, plus, counting, hearings, manyHearing}
 use Rattle.uslp_many.specs.declared.Tally.{Tally}
 use Rattle.uslp_many.proofs.Made.{made-many}
-use Rattle.uslp_counting.specs.History.{recordOf, Handing, heardAll, called, run, Sender, Event, Call, callOf}
+use Rattle.uslp_counting.specs.History.{EachCall, recordOf, Handing, heardAll, called, run, Sender, Event, Call, callOf}
 use Rattle.uslp_counting.specs.History.Call.{hears as hearing, hears-many as many, opens as opening, closes as closing}
-use Rattle.uslp_counting.specs.Console.{missingOverOpen, Given, GivenAll}
+use Rattle.uslp_counting.specs.Console.{missingOverOpen, Given}
 use Rattle.uslp_counting.specs.Restarts.{Wrote, Restart, Leads, Called}
-use Rattle.uslp_counting.specs.Restarts.Restart.{resumes, refuses}
+use Rattle.uslp_counting.specs.Restarts.Restart.{resumes}
 use Rattle.uslp_counting.specs.Restarts.Leads.{ends, next, restart}
 use Rattle.uslp_counting.specs.Restarts.Called.{new, opens, closes, hears, hears-many, restores}
-use Rattle.uslp_counting.proofs.Singly.{Steps, steps-of}
-use Rattle.uslp_counting.proofs.Singly.Steps.{ends as steps-end, next as steps-next, restart as steps-restart}
-use Rattle.uslp_counting.proofs.Restarts.{wrote-form}
+use Rattle.uslp_counting.proofs.Restarts.{wrote-form, wrote-whole, leads-keep}
 use Rattle.uslp_counting.proofs.Console.{console-made}
 
 -- what holds of records that calls made holds after a restoring too, done or refused
@@ -47,7 +45,7 @@ pub made-called : {r : ChannelRecord} → Called r → Made r
 made-called new = made-empty
 made-called (opens {r = r} k w craft c) = made-opening r (made-called c) k w craft
 made-called (closes {r = r} k c) = made-closing r (made-called c) k
-made-called (hears {r = r} s fecf oct c) = made-hearing r (made-called c) s fecf oct
+made-called (hears {r = r} s fecf oct c) = made-hearing channelOf r (made-called c) s fecf oct
 made-called (hears-many {r = r} s fecf oct c) = made-many fecf r (made-called c) s oct
 made-called (restores f s h c) = made-restoring (made-called c) h
 
@@ -63,37 +61,39 @@ pub record CameBack (f : Form) (r : ChannelRecord) (b : List ℕ) (found : Chann
   pub restores : Restoring f found (formOf f r) (keeping (done tt) q)
   pub back : Back f r q
 
-pub called-back : {r : ChannelRecord} → Called r → (f : Form) (b : List ℕ) → length (formOf f r) ≤ length b → (found : ChannelRecord) → CameBack f r b found
-called-back {r} c f b room found =
+-- where the form lacks no flag of its open channels
+pub called-back : {r : ChannelRecord} → Called r → (f : Form) → anyLacks f (r .slots) ≡ false → (b : List ℕ) → length (formOf f r) ≤ length b
+    → (found : ChannelRecord) → CameBack f r b found
+called-back {r} c f whole b room found =
     let s = formOf f r in
     let rest = drop (length s) b in
     let made = made-called c in
-    let e = saving-done f r b room in
+    let e = saving-done f r b whole room in
     record {
       saves = e;
       wrote = record { buffer = b; left = s ++ rest; count = length s; saves = e; octets = take-append-seam s rest };
       q = restored (entriesOf f r);
-      restores = restores-saved f r made found;
-      back = comes-back f r made found;
+      restores = restores-saved f r made whole found;
+      back = comes-back f r made whole found;
     }
 
 -- the record after a call of many frames is the one that the call leaves
 many-counted : (K : Channel) (fecf : Bool) (fs : List (TransferFrame × List ℕ)) (t : Tally) (r : ChannelRecord)
-    → hearings fecf fs t r .1 ≡ heardAll frameHearing K r fs fecf .1
+    → hearings fecf fs t r .1 ≡ heardAll channelOf frameHearing K r fs fecf .1
 unfolding hearings heardAll
 many-counted K fecf [] t r = refl
 many-counted K fecf (f ∷ fs) t r = go (frameHearing r (f .1) fecf) (λ u q. many-counted K fecf fs u q)
   where
-    go : (q : Kept FrameArrival) → ((u : Tally) (v : ChannelRecord) → hearings fecf fs u v .1 ≡ heardAll frameHearing K v fs fecf .1)
-        → hearings fecf fs (counting t q .0) (counting t q .1) .1 ≡ heardAll frameHearing K (recordOf q) fs fecf .1
+    go : (q : Kept FrameArrival) → ((u : Tally) (v : ChannelRecord) → hearings fecf fs u v .1 ≡ heardAll channelOf frameHearing K v fs fecf .1)
+        → hearings fecf fs (counting t q .0) (counting t q .1) .1 ≡ heardAll channelOf frameHearing K (recordOf q) fs fecf .1
     go (keeping o v) ih = ih (plus t (tallyOf o)) v
 
-pub many-called : (K : Channel) (r : ChannelRecord) (s : List ℕ) (fecf : Bool) → manyHearing r s fecf .next ≡ called frameHearing K r (many s fecf) .1
+pub many-called : (K : Channel) (r : ChannelRecord) (s : List ℕ) (fecf : Bool) → manyHearing r s fecf .next ≡ called channelOf frameHearing K r (many s fecf) .1
 unfolding manyHearing
 many-called K r s fecf = many-counted K fecf (cut fecf s .frames) noFrames r
 
 -- a call leaves such a record
-called-call : (K : Channel) {r : ChannelRecord} (c : Call) → Given c → Called r → Called (called frameHearing K r c .1)
+called-call : (K : Channel) {r : ChannelRecord} (c : Call) → Given c → Called r → Called (called channelOf frameHearing K r c .1)
 called-call K (hearing s fecf) given c = hears s fecf given c
 called-call K {r} (many s fecf) given c = subst Called (many-called K r s fecf) (hears-many s fecf given c)
 called-call K (opening k w) given c = opens k w given c
@@ -101,16 +101,16 @@ called-call K (closing k) given c = closes k c
 
 -- so a history of calls from the empty record leads to one
 module _ (K : Channel) where
-  called-from : (cs : List Call) {r : ChannelRecord} → Called r → GivenAll cs → Called (run frameHearing K r cs)
+  called-from : (cs : List Call) {r : ChannelRecord} → Called r → EachCall Given cs → Called (run channelOf frameHearing K r cs)
   unfolding run
   called-from [] c given = c
   called-from (x ∷ xs) c given = called-from xs (called-call K x (given .0) c) (given .1)
 
-  pub made-run : (cs : List Call) → GivenAll cs → Made (run frameHearing K emptyRecord cs)
+  pub made-run : (cs : List Call) → EachCall Given cs → Made (run channelOf frameHearing K emptyRecord cs)
   made-run cs given = made-called (called-from cs new given)
 
-  pub console-run : (cs : List Call) → GivenAll cs
-      → consoleTotal (run frameHearing K emptyRecord cs) ≡ done (missingOverOpen (run frameHearing K emptyRecord cs))
+  pub console-run : (cs : List Call) → EachCall Given cs
+      → consoleTotal (run channelOf frameHearing K emptyRecord cs) ≡ done (missingOverOpen (run channelOf frameHearing K emptyRecord cs))
   console-run cs given = console-called (called-from cs new given)
 
 -- and so does a restoring that is done, whatever record it found
@@ -118,43 +118,37 @@ called-restored : {f : Form} {found q : ChannelRecord} {s : List ℕ} → Restor
 called-restored {f} {s} h = let d = restores-done f h in subst Called (d .is) (restores f s (good (d .unheard) (d .heard) (d .is-good)) new)
 
 -- octets that saving m wrote are restored, whatever record is found
-module _ {f : Form} {m : ChannelRecord} {s : List ℕ} (c : Called m) (w : Wrote f m s) (found : ChannelRecord) where
-  restores-wrote : Restoring f found s (keeping (done tt) (restored (entriesOf f m)))
+module _ {f : Form} {m : ChannelRecord} {s : List ℕ} (made : Made m) (w : Wrote f m s) (found : ChannelRecord) where
+  pub restores-wrote : Restoring f found s (keeping (done tt) (restored (entriesOf f m)))
   restores-wrote =
       subst (λ (o : List ℕ). Restoring f found o (keeping (done tt) (restored (entriesOf f m)))) (sym (wrote-form w))
-      (restores-saved f m (made-called c) found)
+      (restores-saved f m made (wrote-whole w) found)
 
-  pub restarts-called : Restart m (restored (entriesOf f m))
-  restarts-called = resumes f (λ i. sound-fits f (stateAt m i) (made-called c .sound i)) w restores-wrote
+  pub restarts-made : Restart m (restored (entriesOf f m))
+  restarts-made = resumes f (λ i. sound-fits f (stateAt m i) (made .sound i)) w restores-wrote
 
-module _ {K : Channel} {width : ℕ} {fecf : Bool} (S : Sender K width fecf) where
+module _ {K : Channel} {width : ℕ} {fecf : Bool} (S : Sender channelOf K width fecf) where
   -- a restart at the end of a run
-  leads-restart : {r m q : ChannelRecord} {es : List (Event K width)} {hs : List Handing}
+  leads-restart : {r m q : ChannelRecord} {es : List (Event channelOf K width)} {hs : List Handing}
       → Leads frameHearing S r es hs m → Restart m q → Leads frameHearing S r es hs q
   leads-restart ends g = restart g ends
   leads-restart (next ms c stand room l) g = next ms c stand room (leads-restart l g)
   leads-restart (restart h l) g = restart h (leads-restart l g)
 
   -- so what a run leads to from such a record is such a record
-  steps-called : {r q : ChannelRecord} {es : List (Event K width)} {hs : List Handing} → Called r → GivenAll (map (callOf S) es)
-      → Steps frameHearing S r es hs q → Called q
-  steps-called c given steps-end = c
-  steps-called c given (steps-next e room l) = steps-called (called-call K (callOf S e) (given .0) c) (given .1) l
-  steps-called c given (steps-restart (resumes f fit w h) l) = steps-called (called-restored h) given l
-  steps-called c given (steps-restart (refuses f s h) l) = steps-called (restores f s h c) given l
-
-  pub leads-called : {r q : ChannelRecord} {es : List (Event K width)} {hs : List Handing} → Called r → GivenAll (map (callOf S) es)
+  pub leads-called : {r q : ChannelRecord} {es : List (Event channelOf K width)} {hs : List Handing} → Called r → EachCall Given (map (callOf S) es)
       → Leads frameHearing S r es hs q → Called q
-  leads-called c given l = steps-called c given (steps-of frameHearing S l)
+  leads-called c given l = leads-keep frameHearing S Called Given (λ e r. called-call K (callOf S e)) (λ f found q s. called-restored) l c given
 
   -- the octets s are restored where the record `found` is: done, and the run from r goes on
-  pub record GoesOn (r : ChannelRecord) (es : List (Event K width)) (hs : List Handing) (f : Form) (found : ChannelRecord) (s : List ℕ) : Type 0 where
+  pub record GoesOn (r : ChannelRecord) (es : List (Event channelOf K width)) (hs : List Handing) (f : Form) (found : ChannelRecord) (s : List ℕ) : Type 0 where
     pub q : ChannelRecord
     pub restores : Restoring f found s (keeping (done tt) q)
     pub leads : Leads frameHearing S r es hs q
 
   -- A run led to a record m that calls made, and saving m wrote s: whatever was called since, restoring s is done and the run goes on.
-  pub goes-on : {r m : ChannelRecord} {es : List (Event K width)} {hs : List Handing} → Leads frameHearing S r es hs m → Called m
+  pub goes-on : {r m : ChannelRecord} {es : List (Event channelOf K width)} {hs : List Handing} → Leads frameHearing S r es hs m → Called m
       → {f : Form} {s : List ℕ} → Wrote f m s → (found : ChannelRecord) → GoesOn r es hs f found s
   goes-on {m} l c {f} w found =
-      record { q = restored (entriesOf f m); restores = restores-wrote c w found; leads = leads-restart l (restarts-called c w found) }
+      let made = made-called c in
+      record { q = restored (entriesOf f m); restores = restores-wrote made w found; leads = leads-restart l (restarts-made made w found) }

@@ -10,6 +10,8 @@ use lib.ListN.{length}
 use Rattle.uslp_octets.specs.Octets.{AreOctets, bitsIn, valueOf, pack}
 use Rattle.uslp_octets.proofs.Laws.{are-append, are-number}
 use Rattle.uslp_kinds.specs.Outcome.{done}
+use Rattle.uslp_kinds.specs.declared.BypassSequenceControlFlag.{BypassSequenceControlFlag}
+use Rattle.uslp_kinds.specs.declared.BypassSequenceControlFlag.the-variants.{SequenceControlledQoS}
 use Rattle.uslp_primary_header.specs.Header.{table, headerReading}
 use Rattle.uslp_data_field_header.specs.Field.{fieldTable, fieldReading}
 use Rattle.uslp_reader.specs.Reader.{frameReading}
@@ -19,7 +21,7 @@ use Rattle.uslp_record.specs.Record.{keeping, opening}
 use Rattle.uslp_record.specs.Judging.{judging}
 use Rattle.uslp_record.specs.declared.SlotState.the-variants.{Opened}
 use Rattle.uslp_record.specs.declared.ChannelRecord.{ChannelRecord}
-use Rattle.uslp_hearing.specs.Hearing.{frameHearing}
+use Rattle.uslp_hearing.specs.Hearing.{channelOf, frameHearing}
 use Rattle.uslp_counting.specs.Places.{furthest, aheadOf, leaders, Close, Window, lost}
 use Rattle.uslp_counting.specs.History.{run, handed, singly, missingFor, Sender, frameAt, Event, Call, callOf, handingAt, following, handings, places}
 use Rattle.uslp_counting.specs.History.Call.{hears-many}
@@ -32,17 +34,20 @@ use Rattle.uslp_counting.proofs.Theorem.{counted}
 use Rattle.uslp_counting.proofs.Room.{unfilled}
 use Rattle.uslp_counting.proofs.Witness.{craft, reading, whole, are-octets, headerAt, oven}
 
-abbrev pub sender : Sender craft 1 false
-sender = oven 1 (omega arith) false
+abbrev pub sender : Sender channelOf craft 1 false
+sender = oven SequenceControlledQoS 0 1 (omega arith) false
 
--- its frames are octets
-pub are-sent : (p : ℕ) → AreOctets (frameAt sender p)
+-- its frames are octets, and so are those of either flag and any first count
+pub are-oven : (flag : BypassSequenceControlFlag) (start p : ℕ) → AreOctets (frameAt (oven flag start 1 (omega arith) false) p)
 unfolding oven
-are-sent p =
-    let h = table 0 (headerAt 1 (omega arith) false p) in
+are-oven flag start p =
+    let h = table 0 (headerAt flag start 1 (omega arith) false p) in
     let f = fieldTable whole in
     are-append (pack h) (pack f ++ (reading ++ [])) (are-number (bitsIn h / 8) (valueOf h))
     (are-append (pack f) (reading ++ []) (are-number (bitsIn f / 8) (valueOf f)) (are-append reading [] are-octets (λ i. lit< tt)))
+
+pub are-sent : (p : ℕ) → AreOctets (frameAt sender p)
+are-sent = are-oven SequenceControlledQoS 0
 
 -- the record once the channel is open
 abbrev pub begun : ChannelRecord
@@ -53,7 +58,7 @@ unfolding opening find vacant
 begins = refl
 
 -- p arrives, and then q
-abbrev pub two : ℕ → ℕ → List (Event craft 1)
+abbrev pub two : ℕ → ℕ → List (Event channelOf craft 1)
 two p q = arrives p [] ∷ arrives q [] ∷ []
 
 abbrev pub calls : ℕ → ℕ → List Call
@@ -71,8 +76,8 @@ lost-two q h =
     rw (lt-ltb 0 q h) (omega (arith, one, more))
 
 -- the places 0 and 2: both are handed on, the second with a gap of one, and one is missing
-pub one-missing : (handed frameHearing craft begun (calls 0 2) ≡ handingAt sender 0 0 ∷ handingAt sender 1 2 ∷ [])
-    × (missingFor craft (run frameHearing craft begun (calls 0 2)) ≡ 1)
+pub one-missing : (handed channelOf frameHearing craft begun (calls 0 2) ≡ handingAt sender 0 0 ∷ handingAt sender 1 2 ∷ [])
+    × (missingFor craft (run channelOf frameHearing craft begun (calls 0 2)) ≡ 1)
 unfolding places leaders aheadOf handings following
 one-missing =
     let less = lost-two 2 (omega arith) in
@@ -92,21 +97,22 @@ pub stands : singly together ≡ calls 0 2
 unfolding oven cutUpTo frameReading headerReading fieldReading
 stands = refl
 
-pub one-missing-together : (handed frameHearing craft begun together ≡ handingAt sender 0 0 ∷ handingAt sender 1 2 ∷ [])
+pub one-missing-together : (handed channelOf frameHearing craft begun together ≡ handingAt sender 0 0 ∷ handingAt sender 1 2 ∷ [])
     × (missingFor craft (manyHearing begun frames false .next) ≡ 1)
 unfolding run
 one-missing-together = (
-  handed-singly frameHearing craft together begun ∙ ap (handed frameHearing craft begun) stands ∙ one-missing .0,
-  ap (missingFor craft) (many-called craft begun frames false ∙ run-singly frameHearing craft together begun ∙ ap (run frameHearing craft begun) stands)
+  handed-singly channelOf frameHearing craft together begun ∙ ap (handed channelOf frameHearing craft begun) stands ∙ one-missing .0,
+  ap (missingFor craft) (many-called craft begun frames false ∙ run-singly channelOf frameHearing craft together begun
+      ∙ ap (run channelOf frameHearing craft begun) stands)
       ∙ one-missing .1,
 )
 
 -- one place further ahead than the window: 129 after 0 is taken for LATE, and is not handed on
-pub too-far-ahead : handed frameHearing craft begun (calls 0 129) ≡ handings sender (leaders [] (places (two 0 129))) → ⊥
+pub too-far-ahead : handed channelOf frameHearing craft begun (calls 0 129) ≡ handings sender (leaders [] (places (two 0 129))) → ⊥
 unfolding handed oven frameReading headerReading fieldReading judging find places leaders aheadOf handings following
 too-far-ahead e = let z : _≡_ {A = ℕ} 1 2 = ap length e in omega arith
 
 -- one place further behind: 0 after 128 is taken for NEW, and is handed on
-pub too-far-behind : handed frameHearing craft begun (calls 128 0) ≡ handings sender (leaders [] (places (two 128 0))) → ⊥
+pub too-far-behind : handed channelOf frameHearing craft begun (calls 128 0) ≡ handings sender (leaders [] (places (two 128 0))) → ⊥
 unfolding handed oven frameReading headerReading fieldReading judging find places leaders aheadOf handings following
 too-far-behind e = let z : _≡_ {A = ℕ} 2 1 = ap length e in omega arith

@@ -2,6 +2,7 @@ pub mod Singly
 pub mod Ahead
 pub mod Lost
 pub mod Stands
+pub mod Agrees
 pub mod Restarts
 pub mod Others
 pub mod Arrival
@@ -12,8 +13,10 @@ pub mod Room
 pub mod Refusals
 pub mod Console
 pub mod Called
+pub mod Updated
 pub mod Witness
 pub mod Instance
 pub mod Restarted
+pub mod Mixed
 pub mod Wrong
 pub mod Blocks

@@ -20,18 +20,20 @@ use Rattle.uslp_record.proofs.Hears.{judging-wide, judged-width}
 use Rattle.uslp_record.proofs.Slots.{true-false, same-one}
 use Rattle.uslp_reader.specs.Reader.{frameReading, contentsIn}
 use Rattle.uslp_reader.specs.declared.TransferFrame.{TransferFrame}
-use Rattle.uslp_hearing.specs.Hearing.{channelOf, withFrame, judgedFrame, frameHearing}
+use Rattle.uslp_hearing.specs.Hearing.{Naming, withFrame, judgedBy, hearingBy}
 use Rattle.uslp_hearing.specs.declared.FrameArrival.{FrameArrival}
 use Rattle.uslp_counting.specs.History.{recordOf, answerOf, handing, Roomy}
 use Rattle.uslp_counting.specs.History.Call.{hears}
 use Rattle.uslp_counting.proofs.Stands.{Stands, stands-judging}
+use Rattle.uslp_counting.proofs.Agrees.{Agrees}
 
 -- a hearing of the octets s hands nothing on for K, and K stands in the state t after it
-pub record Passes (K : Channel) (s : List ℕ) (t : SlotState) (q : Kept FrameArrival) : Type 0 where
-  pub nothing : handing K s (answerOf q) ≡ []
+pub record Passes (name : Naming) (K : Channel) (s : List ℕ) (t : SlotState) (q : Kept FrameArrival) : Type 0 where
+  pub nothing : handing name K s (answerOf q) ≡ []
   pub stands : Stands K (recordOf q) t
 
-module _ (K : Channel) (r : ChannelRecord) (t : SlotState) (at : Stands K r t) where
+-- the frames are of channels by `name`; the console counts them by `by`
+module _ (name by : Naming) (K : Channel) (r : ChannelRecord) (t : SlotState) (at : Stands K r t) where
   -- a frame of the channel in another width is refused, and not for a total
   misfit-ways : (P : Outcome (Arrival × Change) → Type 0) (w n : ℕ) → (w ≡ widthAt t → ⊥)
       → ((j : ℕ) (vs : List ℕ) → j < 17 → P (refused j vs)) → P (judging r K w n)
@@ -44,9 +46,9 @@ module _ (K : Channel) (r : ChannelRecord) (t : SlotState) (at : Stands K r t) w
 
   module _ (s : List ℕ) where
     -- a frame of another channel that was read
-    passes-other : (x : TransferFrame) → sameChannel (channelOf (x .«primary_header»)) K ≡ false → (o : Outcome (Arrival × Change))
+    passes-other : (x : TransferFrame) → sameChannel (name (x .«primary_header»)) K ≡ false → (o : Outcome (Arrival × Change))
         → Stands K (recordOf (taken r o)) t
-        → Passes K s t (taken r (withFrame x o))
+        → Passes name K s t (taken r (withFrame x o))
     passes-other x other (done (New gap, c)) h =
         record { nothing = ap (λ (b : Bool). cond b ((gap, x, contentsIn x s) ∷ []) []) other; stands = h }
     passes-other x other (done (Repeat, c)) h = record { nothing = refl; stands = h }
@@ -54,53 +56,53 @@ module _ (K : Channel) (r : ChannelRecord) (t : SlotState) (at : Stands K r t) w
     passes-other x other (refused k vs) h = record { nothing = refl; stands = h }
 
     module _ (fecf : Bool) where
-      by-reading : (o : Outcome TransferFrame) → frameReading s fecf ≡ o → Passes K s t (taken r (andThen o (judgedFrame r)))
-          → Passes K s t (frameHearing r s fecf)
-      by-reading o e = subst (λ (v : Outcome TransferFrame). Passes K s t (taken r (andThen v (judgedFrame r)))) (sym e)
+      by-reading : (o : Outcome TransferFrame) → frameReading s fecf ≡ o → Passes name K s t (taken r (andThen o (judgedBy by r)))
+          → Passes name K s t (hearingBy by r s fecf)
+      by-reading o e = subst (λ (v : Outcome TransferFrame). Passes name K s t (taken r (andThen v (judgedBy by r)))) (sym e)
 
       module _ (k : ℕ) (vs : List ℕ) (e : frameReading s fecf ≡ refused k vs) where
-        pub passes-damaged : Passes K s t (frameHearing r s fecf)
+        pub passes-damaged : Passes name K s t (hearingBy by r s fecf)
         passes-damaged = by-reading (refused k vs) e (record { nothing = refl; stands = at })
 
-        pub roomy-damaged : Roomy frameHearing K r (hears s fecf)
+        pub roomy-damaged : Roomy name (hearingBy by) K r (hears s fecf)
         roomy-damaged x d = absurd (not-done (sym e ∙ d))
 
-      module _ (x : TransferFrame) (e : frameReading s fecf ≡ done x) where
-        module _ (other : sameChannel (channelOf (x .«primary_header»)) K ≡ false) where
-          pub passes-elsewhere : Passes K s t (frameHearing r s fecf)
+      module _ (agree : Agrees name by K (hears s fecf)) (x : TransferFrame) (e : frameReading s fecf ≡ done x) where
+        module _ (other : sameChannel (name (x .«primary_header»)) K ≡ false) where
+          pub passes-elsewhere : Passes name K s t (hearingBy by r s fecf)
           passes-elsewhere =
               let h = x .«primary_header» in
               by-reading (done x) e
-              (passes-other x other (judging r (channelOf h) (h .«vc_frame_count_len») (h .«vc_frame_count»))
-              (stands-judging K r t at (channelOf h) other (h .«vc_frame_count_len») (h .«vc_frame_count»)))
+              (passes-other x other (judging r (by h) (h .«vc_frame_count_len») (h .«vc_frame_count»))
+              (stands-judging K r t at (by h) (agree x e ∙ other) (h .«vc_frame_count_len») (h .«vc_frame_count»)))
 
-          pub roomy-elsewhere : Roomy frameHearing K r (hears s fecf)
+          pub roomy-elsewhere : Roomy name (hearingBy by) K r (hears s fecf)
           roomy-elsewhere y d same =
               let z : x ≡ y = done-one (sym e ∙ d) in
-              absurd (true-false same (ap (λ (v : TransferFrame). sameChannel (channelOf (v .«primary_header»)) K) (sym z) ∙ other))
+              absurd (true-false same (ap (λ (v : TransferFrame). sameChannel (name (v .«primary_header»)) K) (sym z) ∙ other))
 
         -- a frame of the channel in another width: whatever holds of a refusal that is not for a total
         module _ (odd : x .«primary_header» .«vc_frame_count_len» ≡ widthAt t → ⊥) where
-          misfit : (P : Kept FrameArrival → Type 0) → sameChannel (channelOf (x .«primary_header»)) K ≡ true
-              → ((j : ℕ) (vs : List ℕ) → j < 17 → P (keeping (refused j vs) r)) → P (frameHearing r s fecf)
+          misfit : (P : Kept FrameArrival → Type 0) → sameChannel (name (x .«primary_header»)) K ≡ true
+              → ((j : ℕ) (vs : List ℕ) → j < 17 → P (keeping (refused j vs) r)) → P (hearingBy by r s fecf)
           misfit P same f =
               let h = x .«primary_header» in
               let w = h .«vc_frame_count_len» in
               let n = h .«vc_frame_count» in
-              subst (λ (v : Outcome TransferFrame). P (taken r (andThen v (judgedFrame r)))) (sym e)
-              (subst (λ (k : Channel). P (taken r (withFrame x (judging r k w n)))) (sym (same-one (channelOf h) K same))
+              subst (λ (v : Outcome TransferFrame). P (taken r (andThen v (judgedBy by r)))) (sym e)
+              (subst (λ (k : Channel). P (taken r (withFrame x (judging r k w n)))) (sym (same-one (by h) K (agree x e ∙ same)))
               (misfit-ways (λ (o : Outcome (Arrival × Change)). P (taken r (withFrame x o))) w n odd f))
 
-          pub passes-misfit : Passes K s t (frameHearing r s fecf)
-          passes-misfit = go (sameChannel (channelOf (x .«primary_header»)) K) refl
+          pub passes-misfit : Passes name K s t (hearingBy by r s fecf)
+          passes-misfit = go (sameChannel (name (x .«primary_header»)) K) refl
             where
-              go : (b : Bool) → sameChannel (channelOf (x .«primary_header»)) K ≡ b → Passes K s t (frameHearing r s fecf)
-              go true same = misfit (Passes K s t) same (λ j vs low. record { nothing = refl; stands = at })
+              go : (b : Bool) → sameChannel (name (x .«primary_header»)) K ≡ b → Passes name K s t (hearingBy by r s fecf)
+              go true same = misfit (Passes name K s t) same (λ j vs low. record { nothing = refl; stands = at })
               go false other = passes-elsewhere other
 
-          pub roomy-misfit : Roomy frameHearing K r (hears s fecf)
+          pub roomy-misfit : Roomy name (hearingBy by) K r (hears s fecf)
           roomy-misfit y d same =
               let z : x ≡ y = done-one (sym e ∙ d) in
               misfit (λ (q : Kept FrameArrival). answerOf q ≡ refused 17 [] → ⊥)
-              (ap (λ (v : TransferFrame). sameChannel (channelOf (v .«primary_header»)) K) z ∙ same)
+              (ap (λ (v : TransferFrame). sameChannel (name (v .«primary_header»)) K) z ∙ same)
               (λ j vs low f. let g : j ≡ 17 = cc in omega arith)

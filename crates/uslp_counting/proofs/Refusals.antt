@@ -8,7 +8,7 @@ use Rattle.uslp_kinds.proofs.Outcomes.{not-done}
 use Rattle.uslp_record.specs.Record.{Kept, opening, closing}
 use Rattle.uslp_record.specs.declared.Channel.{Channel}
 use Rattle.uslp_record.specs.declared.ChannelRecord.{ChannelRecord}
-use Rattle.uslp_hearing.specs.Hearing.{frameHearing}
+use Rattle.uslp_hearing.specs.Hearing.{channelOf, frameHearing}
 use Rattle.uslp_counting.specs.History.{recordOf, answerOf}
 use Rattle.uslp_record.proofs.Ways.{opening-ways, closing-ways}
 use Rattle.uslp_hearing.proofs.Ways.{frame-ways}
@@ -18,7 +18,7 @@ module _ (r : ChannelRecord) (k : ℕ) (vs : List ℕ) where
   Unchanged q = answerOf q ≡ refused k vs → recordOf q ≡ r
 
   pub hearing-refused : (s : List ℕ) (fecf : Bool) → answerOf (frameHearing r s fecf) ≡ refused k vs → recordOf (frameHearing r s fecf) ≡ r
-  hearing-refused s fecf = frame-ways Unchanged r s fecf (λ j ws e. refl) (λ x d g e. absurd (not-done (sym e)))
+  hearing-refused s fecf = frame-ways channelOf Unchanged r s fecf (λ j ws e. refl) (λ x d g e. absurd (not-done (sym e)))
 
   module _ (c : Channel) where
     pub opening-refused : (w : ℕ) → answerOf (opening r c w) ≡ refused k vs → recordOf (opening r c w) ≡ r

@@ -13,47 +13,51 @@ use Rattle.uslp_reader.specs.Reader.{frameReading}
 use Rattle.uslp_record.specs.Slots.{find, emptyRecord}
 use Rattle.uslp_record.specs.Judging.{judging}
 use Rattle.uslp_record.specs.declared.ChannelRecord.{ChannelRecord}
-use Rattle.uslp_form.specs.Form.{insert, sorted, restored}
+use Rattle.uslp_form.specs.Form.{anyLacks, insert, sorted, restored}
 use Rattle.uslp_form.specs.Form.Form.{one}
 use Rattle.uslp_form.proofs.Trips.{entriesOf}
 use Rattle.uslp_form.proofs.Claims.{form-long}
-use Rattle.uslp_hearing.specs.Hearing.{frameHearing}
+use Rattle.uslp_hearing.specs.Hearing.{channelOf, frameHearing}
 use Rattle.uslp_counting.specs.History.{recordOf, called, Roomy, missingFor, frameAt, callOf, handingAt}
 use Rattle.uslp_counting.specs.History.Event.{arrives}
 use Rattle.uslp_counting.specs.Restarts.{Restart, Leads, Called}
 use Rattle.uslp_counting.specs.Restarts.Leads.{ends, next, restart}
 use Rattle.uslp_counting.specs.Restarts.Called.{new, opens, hears}
 use Rattle.uslp_counting.proofs.Theorem.{counted-over}
-use Rattle.uslp_counting.proofs.Called.{made-called, called-back, restarts-called}
+use Rattle.uslp_counting.proofs.Called.{made-called, called-back, restarts-made}
 use Rattle.uslp_counting.proofs.Witness.{craft, oven}
 use Rattle.uslp_counting.proofs.Instance.{sender, are-sent, begun, begins, two, near, lost-two}
 
 -- after place 0, then after the restart, then after place 2
 abbrev pub heard : ChannelRecord
-heard = called frameHearing craft begun (callOf sender (arrives 0 [])) .1
+heard = called channelOf frameHearing craft begun (callOf sender (arrives 0 [])) .1
 
 abbrev pub back : ChannelRecord
 back = restored (entriesOf one heard)
 
 abbrev pub after : ChannelRecord
-after = called frameHearing craft back (callOf sender (arrives 2 [])) .1
+after = called channelOf frameHearing craft back (callOf sender (arrives 2 [])) .1
 
 pub called-heard : Called heard
 called-heard =
     hears (frameAt sender 0 ++ []) false (are-append (frameAt sender 0) [] (are-sent 0) (λ i. lit< tt))
     (subst Called (ap recordOf begins) (opens craft 1 (lit< tt) new))
 
+whole-heard : anyLacks one (heard .slots) ≡ false
+unfolding oven frameReading headerReading fieldReading judging find anyLacks
+whole-heard = refl
+
 -- saved into 354 octets, and restored where no channel is open
 pub restarts : Restart heard back
 restarts =
     let room = form-long heard (made-called called-heard .eight) in
-    restarts-called called-heard (called-back called-heard one (replicate 354 0) room emptyRecord .wrote) emptyRecord
+    restarts-made (made-called called-heard) (called-back called-heard one whole-heard (replicate 354 0) room emptyRecord .wrote) emptyRecord
 
-first-room : Roomy frameHearing craft begun (callOf sender (arrives 0 []))
+first-room : Roomy channelOf frameHearing craft begun (callOf sender (arrives 0 []))
 unfolding oven frameReading headerReading fieldReading judging find
 first-room x e k f = not-done (sym f)
 
-second-room : Roomy frameHearing craft back (callOf sender (arrives 2 []))
+second-room : Roomy channelOf frameHearing craft back (callOf sender (arrives 2 []))
 unfolding oven frameReading headerReading fieldReading judging find sorted insert
 second-room x e k f = not-done (sym f)
 
@@ -66,5 +70,5 @@ led =
 -- the one at place 1
 pub one-missing-over : missingFor craft after ≡ 1
 one-missing-over =
-    counted-over craft 1 false sender (omega arith) (omega arith) emptyRecord begun after refl begins (two 0 2) _ led (near 2 (omega arith)) .1
+    counted-over channelOf craft 1 false sender (omega arith) (omega arith) emptyRecord begun after refl begins (two 0 2) _ led (near 2 (omega arith)) .1
     ∙ lost-two 2 (omega arith)

@@ -1,15 +1,14 @@
--- A restart leaves every channel standing as it stood.
-use mathlib.Core.Path.{_≡_, sym, _∙_, ap₂, subst}
-use mathlib.Core.Bool.{Bool, true}
-use mathlib.Core.List.{List, [], _∷_, _++_}
+-- A restart leaves every channel standing as it stood; what a run keeps.
+use mathlib.Core.Path.{_≡_, refl, sym, _∙_, ap₂, subst}
+use mathlib.Core.Bool.{Bool, true, false}
+use mathlib.Core.List.{List, _++_, map}
 use Prim.Native.Nat.{ℕ, _≤_}
 use native.Mathlib.Omega.{arith}
-use lib.Dec.{ltb}
 use lib.ListN.{length, take, drop}
 use lib.Seq.{take-append-seam}
 use Rattle.uslp_kinds.specs.Outcome.{done}
-use Rattle.uslp_kinds.proofs.Outcomes.{done-one, passed, written-done}
 use Rattle.uslp_record.specs.Slots.{holds, find, slotOf}
+use Rattle.uslp_record.specs.Record.{keeping, opening, closing}
 use Rattle.uslp_record.specs.declared.Channel.{Channel}
 use Rattle.uslp_record.specs.declared.SlotState.{SlotState}
 use Rattle.uslp_record.specs.declared.SlotState.the-variants.{Closed}
@@ -17,33 +16,45 @@ use Rattle.uslp_record.proofs.Seek.{finds}
 use Rattle.uslp_record.proofs.Slots.{seek-passes}
 use Rattle.uslp_record.specs.declared.ChannelRecord.{ChannelRecord}
 use Rattle.uslp_form.specs.Entries.{Each, Once, isOpened, isHeard}
-use Rattle.uslp_form.specs.Form.{Form, sorted, formOf, Fitting, GoodForm, restored}
-use Rattle.uslp_form.specs.Saved.{saving}
+use Rattle.uslp_form.specs.Form.{Form, entryLacks, anyLacks, sorted, formOf, Fitting, GoodForm, restored}
+use Rattle.uslp_form.specs.Saved.{Restoring}
 use Rattle.uslp_form.proofs.Each.{each-from}
 use Rattle.uslp_form.proofs.Sorted.{sorted-each}
-use Rattle.uslp_form.proofs.Restored.{eight-restored}
+use Rattle.uslp_form.proofs.Flags.{none-lacks}
+use Rattle.uslp_form.proofs.Restored.{each-at, eight-restored}
 use Rattle.uslp_form.proofs.Trips.{unheardOf, heardOf, entriesOf, found-again}
+use Rattle.uslp_form.proofs.Claims.{Saves, saves}
 use Rattle.uslp_form.proofs.Rows.{Entry, form-one, good-unheard, good-heard, restores-done, restores-refused}
-use Rattle.uslp_counting.specs.Restarts.{Wrote, Restart}
+use Rattle.uslp_hearing.specs.Hearing.{Naming}
+use Rattle.uslp_counting.specs.History.{Hearer, Call, EachCall, recordOf, Handing, called, Sender, frameAt, Event, callOf}
+use Rattle.uslp_counting.specs.History.Call.{hears, opens, closes}
+use Rattle.uslp_counting.specs.History.Event.{arrives, damaged, elsewhere, misfits, opened, closed, again}
+use Rattle.uslp_counting.specs.Restarts.{Wrote, Restart, Leads}
 use Rattle.uslp_counting.specs.Restarts.Restart.{resumes, refuses}
+use Rattle.uslp_counting.proofs.Singly.{Steps, steps-of}
+use Rattle.uslp_counting.proofs.Singly.Steps.{ends, next, restart}
 use Rattle.uslp_counting.proofs.Stands.{Stands}
 
--- what a saving wrote is the form, whatever buffer it had
-pub wrote-form : {f : Form} {r : ChannelRecord} {s : List ℕ} → Wrote f r s → s ≡ formOf f r
-unfolding saving
-wrote-form {f} {r} w =
-    let n = length (formOf f r) in
-    let b = w .buffer in
-    let d = written-done _ (formOf f r ++ drop n b) b (w .saves) in
-    let e = done-one (passed 2 (length b ∷ n ∷ []) (ltb (length b) n) (done n) (d .0) .1) in
-    sym (w .octets) ∙ sym (ap₂ (λ (k : ℕ) (l : List ℕ). take k l) e (d .1)) ∙ take-append-seam (formOf f r) (drop n b)
+-- what a saving wrote is the form, whatever buffer it had, and the form lacked no flag
+module _ {f : Form} {r : ChannelRecord} {s : List ℕ} (w : Wrote f r s) where
+  wrote-saves : Saves f r (w .buffer) (w .count) (w .left)
+  wrote-saves = saves f r (w .buffer) (sym (w .saves))
 
-module _ (f : Form) (r : ChannelRecord) (fit : Fitting f r) where
-  -- what is saved of either kind is of that kind, and fits its columns
+  pub wrote-whole : anyLacks f (r .slots) ≡ false
+  wrote-whole = wrote-saves .whole
+
+  pub wrote-form : s ≡ formOf f r
+  wrote-form =
+      sym (w .octets) ∙ ap₂ (λ (k : ℕ) (l : List ℕ). take k l) (wrote-saves .count) (wrote-saves .left)
+      ∙ take-append-seam (formOf f r) (drop (length (formOf f r)) (w .buffer))
+
+module _ (f : Form) (r : ChannelRecord) (fit : Fitting f r) (whole : anyLacks f (r .slots) ≡ false) where
+  -- what is saved of either kind is of that kind, and its row gives it back
   saved-entries : (test : SlotState → Bool) → Each (Entry f test) (sorted f test (r .slots))
   saved-entries test =
       sorted-each f test (Entry f test) (r .slots)
-      (each-from (λ (x : SlotState). test x ≡ true → Entry f test x) (r .slots) (λ j h e. (e, fit j)))
+      (each-from (λ (x : SlotState). test x ≡ true → Entry f test x) (r .slots)
+      (λ j h e. (e, (fit j, each-at (λ (x : SlotState). entryLacks f x ≡ false) (r .slots) (none-lacks f (r .slots) whole) refl j))))
 
   -- the entries of octets that a saving wrote are those that it saved
   module _ (us hs : List SlotState) (g : GoodForm f (formOf f r) us hs) where
@@ -67,6 +78,36 @@ pub restart-keeps : {r q : ChannelRecord} → Restart r q → (K : Channel) (t :
 restart-keeps (resumes {r = r} f fit w h) K t at =
     let d = restores-done f h in
     subst (λ (x : ChannelRecord). Stands K x t) (d .is)
-    (stands-back f r fit (d .unheard) (d .heard)
+    (stands-back f r fit (wrote-whole w) (d .unheard) (d .heard)
     (subst (λ (o : List ℕ). GoodForm f o (d .unheard) (d .heard)) (wrote-form w) (d .is-good)) K t at)
 restart-keeps (refuses f s h) K t at = subst (λ (x : ChannelRecord). Stands K x t) (restores-refused f h) at
+
+-- what hearing, opening and closing keep, the call of each event keeps
+pub event-keeps : {name : Naming} (H : Hearer) {K : Channel} {width : ℕ} {fecf : Bool} (S : Sender name K width fecf) (P : ChannelRecord → Type 0)
+    (Ok : Call → Type 0)
+    → ((r : ChannelRecord) (s : List ℕ) (f : Bool) → Ok (hears s f) → P r → P (recordOf (H r s f)))
+    → ((r : ChannelRecord) (k : Channel) (w : ℕ) → Ok (opens k w) → P r → P (recordOf (opening r k w)))
+    → ((r : ChannelRecord) (k : Channel) → Ok (closes k) → P r → P (recordOf (closing r k)))
+    → (e : Event name K width) (r : ChannelRecord) → Ok (callOf S e) → P r → P (called name H K r (callOf S e) .1)
+event-keeps H {fecf} S P Ok hear start end (arrives p behind) r ok = hear r (frameAt S p ++ behind) fecf ok
+event-keeps H S P Ok hear start end (damaged s f k vs e) r ok = hear r s f ok
+event-keeps H S P Ok hear start end (elsewhere s f x e o) r ok = hear r s f ok
+event-keeps H S P Ok hear start end (misfits s f x e o) r ok = hear r s f ok
+event-keeps H S P Ok hear start end (opened k w o) r ok = start r k w ok
+event-keeps H S P Ok hear start end (closed k o) r ok = end r k ok
+event-keeps H {K} S P Ok hear start end (again w) r ok = start r K w ok
+
+-- what each call and each restoring that is done keep, a run keeps
+module _ {name : Naming} (H : Hearer) {K : Channel} {width : ℕ} {fecf : Bool} (S : Sender name K width fecf) (P : ChannelRecord → Type 0)
+    (Ok : Call → Type 0) (call : (e : Event name K width) (r : ChannelRecord) → Ok (callOf S e) → P r → P (called name H K r (callOf S e) .1))
+    (back : (f : Form) (found q : ChannelRecord) (s : List ℕ) → Restoring f found s (keeping (done tt) q) → P q) where
+  steps-keep : {r q : ChannelRecord} {es : List (Event name K width)} {hs : List Handing} → Steps H S r es hs q
+      → P r → EachCall Ok (map (callOf S) es) → P q
+  steps-keep ends p ok = p
+  steps-keep (next e room l) p ok = steps-keep l (call e _ (ok .0) p) (ok .1)
+  steps-keep (restart (resumes f fit w h) l) p ok = steps-keep l (back f _ _ _ h) ok
+  steps-keep (restart (refuses f s h) l) p ok = steps-keep l (subst P (restores-refused f h) p) ok
+
+  pub leads-keep : {r q : ChannelRecord} {es : List (Event name K width)} {hs : List Handing} → Leads H S r es hs q
+      → P r → EachCall Ok (map (callOf S) es) → P q
+  leads-keep l = steps-keep (steps-of H S l)

@@ -12,14 +12,16 @@ use Rattle.uslp_record.specs.declared.Channel.{Channel}
 use Rattle.uslp_record.specs.declared.SlotState.{SlotState}
 use Rattle.uslp_record.specs.declared.SlotState.the-variants.{Opened}
 use Rattle.uslp_record.specs.declared.ChannelRecord.{ChannelRecord}
-use Rattle.uslp_hearing.specs.Hearing.{frameHearing}
+use Rattle.uslp_hearing.specs.Hearing.{Naming, hearingBy}
 use Rattle.uslp_counting.specs.Places.{furthest, aheadOf, leaders, Window, lost}
 use Rattle.uslp_counting.specs.History.{Call, Handing, called, Roomy, Unfilled, standsFor, singly, Sender, Event, callOf, placesOf, places}
+use Rattle.uslp_counting.specs.History.Call.{hears}
 use Rattle.uslp_counting.specs.History.Event.{arrives, damaged, elsewhere, misfits, opened, closed, again}
 use Rattle.uslp_counting.specs.Restarts.{Leads}
 use Rattle.uslp_counting.proofs.Singly.{over-roomy, singly-unfilled, Steps, steps-of}
 use Rattle.uslp_counting.proofs.Singly.Steps.{ends, next, restart}
 use Rattle.uslp_counting.proofs.Stands.{Stands, stands-opened}
+use Rattle.uslp_counting.proofs.Agrees.{agrees-self}
 use Rattle.uslp_counting.proofs.Restarts.{restart-keeps}
 use Rattle.uslp_counting.proofs.Others.{roomy-damaged, roomy-elsewhere, roomy-misfit}
 use Rattle.uslp_counting.proofs.Arrival.{room-out}
@@ -51,31 +53,33 @@ lost-grows (p ∷ ps) k ks f l top = go (decLt (furthest (k ∷ ks)) p) (λ m e.
         sym (ap (λ (z : Bool). lost ((f ∷ l) ++ cond z (p ∷ ls) ls)) (ahead-no k ks p (omega arith))) in
         omega (arith, ih, e)
 
-module _ {K : Channel} {width : ℕ} {fecf : Bool} (S : Sender K width fecf) where
+module _ {name : Naming} {K : Channel} {width : ℕ} {fecf : Bool} (S : Sender name K width fecf) where
   counting-grows : {k : ℕ} {ks before : List ℕ} {t : SlotState} → Counting S (k ∷ ks) before t → (ps : List ℕ)
       → lost before ≤ lost (before ++ leaders (k ∷ ks) ps)
   counting-grows (going k ks f l t last top gone all) ps = lost-grows ps k ks f l top
 
   module _ (lo : 1 ≤ width) (hi : width ≤ 7) where
-    roomy : (e : Event K width) (r : ChannelRecord) {seen before : List ℕ} {t : SlotState} → Stands K r t → Counting S seen before t → Near e seen
+    roomy : (e : Event name K width) (r : ChannelRecord) {seen before : List ℕ} {t : SlotState} → Stands K r t → Counting S seen before t → Near e seen
         → (ps : List ℕ)
-        → length (placesOf e ++ seen) ≤ most → lost (before ++ leaders seen (placesOf e ++ ps)) ≤ most → Roomy frameHearing K r (callOf S e)
+        → length (placesOf e ++ seen) ≤ most → lost (before ++ leaders seen (placesOf e ++ ps)) ≤ most → Roomy name (hearingBy name) K r (callOf S e)
     unfolding leaders
     roomy (arrives p behind) r {seen} {before} {t} at c near ps few less =
         let h = advance S p behind lo hi c near in
         let e = ap lost (h .leads (leaders (p ∷ seen) ps)) in
         let g = counting-grows (h .counting) ps in
-        room-out S p behind r t at hi (counting-width S c) (counting-room S (h .counting) few (omega (arith, e, g, less)))
-    roomy (damaged s f k vs e) r {t} at c near ps few less = roomy-damaged K r t at s f k vs e
-    roomy (elsewhere s f x e o) r {t} at c near ps few less = roomy-elsewhere K r t at s f x e o
-    roomy (misfits s f x e o) r {t} at c near ps few less = roomy-misfit K r t at s f x e (λ w. o (w ∙ sym (counting-width S c)))
+        room-out S p behind name (agrees-self name K (callOf S (arrives p behind))) r t at hi (counting-width S c)
+        (counting-room S (h .counting) few (omega (arith, e, g, less)))
+    roomy (damaged s f k vs e) r {t} at c near ps few less = roomy-damaged name name K r t at s f k vs e
+    roomy (elsewhere s f x e o) r {t} at c near ps few less = roomy-elsewhere name name K r t at s f (agrees-self name K (hears s f)) x e o
+    roomy (misfits s f x e o) r {t} at c near ps few less =
+        roomy-misfit name name K r t at s f (agrees-self name K (hears s f)) x e (λ w. o (w ∙ sym (counting-width S c)))
     roomy (opened k w o) r at c near ps few less = tt
     roomy (closed k o) r at c near ps few less = tt
     roomy (again w) r at c near ps few less = tt
 
-    rooms : (es : List (Event K width)) (r : ChannelRecord) (seen before : List ℕ) (t : SlotState) → Stands K r t → Counting S seen before t
+    rooms : (es : List (Event name K width)) (r : ChannelRecord) (seen before : List ℕ) (t : SlotState) → Stands K r t → Counting S seen before t
         → Window (256 ^ width / 2) seen (places es) → length (places es) + length seen ≤ most → lost (before ++ leaders seen (places es)) ≤ most
-        → Unfilled frameHearing K r (map (callOf S) es)
+        → Unfilled name (hearingBy name) K r (map (callOf S) es)
     unfolding Unfilled places
     rooms [] r seen before t at c near few less = tt
     rooms (e ∷ es) r seen before t at c near few less =
@@ -83,42 +87,42 @@ module _ {K : Channel} {width : ℕ} {fecf : Bool} (S : Sender K width fecf) whe
         let a = length-append (placesOf e) (places es) in
         let b = length-append (placesOf e) seen in
         let room = roomy e r at c (w .0) (places es) (omega (arith, a, b, few)) less in
-        let h = went S lo hi e r at c (w .0) room in
-        let q = called frameHearing K r (callOf S e) in (
+        let h = went S name lo hi e (agrees-self name K (callOf S e)) r at c (w .0) room in
+        let q = called name (hearingBy name) K r (callOf S e) in (
           room,
           rooms es (q .1) (seenWith e seen) (h .leading) (h .state) (h .stands) (h .counting) (w .1) (omega (arith, a, b, few))
               (subst (λ (l : List ℕ). lost l ≤ most) (sym (h .leads (places es))) less),
         )
 
     -- the events that follow a run
-    rooms-after : {es : List (Event K width)} {hs : List Handing} {r q : ChannelRecord} → Steps frameHearing S r es hs q
+    rooms-after : {es : List (Event name K width)} {hs : List Handing} {r q : ChannelRecord} → Steps (hearingBy name) S r es hs q
         → (seen before : List ℕ) (t : SlotState) → Stands K r t → Counting S seen before t
-        → (ms : List (Event K width)) → Window (256 ^ width / 2) seen (places (es ++ ms)) → length (places (es ++ ms)) + length seen ≤ most
-        → lost (before ++ leaders seen (places (es ++ ms))) ≤ most → Unfilled frameHearing K q (map (callOf S) ms)
+        → (ms : List (Event name K width)) → Window (256 ^ width / 2) seen (places (es ++ ms)) → length (places (es ++ ms)) + length seen ≤ most
+        → lost (before ++ leaders seen (places (es ++ ms))) ≤ most → Unfilled name (hearingBy name) K q (map (callOf S) ms)
     unfolding places
     rooms-after (ends {r = r}) seen before t at c ms near few less = rooms ms r seen before t at c near few less
     rooms-after (next {r = r} {es = es} d room rest) seen before t at c ms near few less =
         let ps = places (es ++ ms) in
         let w = window-first d seen ps near in
-        let h = went S lo hi d r at c (w .0) room in
+        let h = went S name lo hi d (agrees-self name K (callOf S d)) r at c (w .0) room in
         rooms-after rest (seenWith d seen) (h .leading) (h .state) (h .stands) (h .counting) ms (w .1)
         (omega (arith, length-append (placesOf d) ps, length-append (placesOf d) seen, few))
         (subst (λ (l : List ℕ). lost l ≤ most) (sym (h .leads ps)) less)
     rooms-after (restart g rest) seen before t at c ms near few less = rooms-after rest seen before t (restart-keeps g K t at) c ms near few less
 
     pub unfilled-over : (r₀ r q : ChannelRecord) → length (r₀ .slots) ≡ 8 → opening r₀ K width ≡ keeping (done tt) r
-        → {es : List (Event K width)} {hs : List Handing} → Leads frameHearing S r es hs q
-        → (ms : List (Event K width)) (c : Call) → standsFor c ≡ map (callOf S) ms → Window (256 ^ width / 2) [] (places (es ++ ms))
-        → length (places (es ++ ms)) < 2 ^ 60 → lost (leaders [] (places (es ++ ms))) < 2 ^ 60 → Roomy frameHearing K q c
+        → {es : List (Event name K width)} {hs : List Handing} → Leads (hearingBy name) S r es hs q
+        → (ms : List (Event name K width)) (c : Call) → standsFor c ≡ map (callOf S) ms → Window (256 ^ width / 2) [] (places (es ++ ms))
+        → length (places (es ++ ms)) < 2 ^ 60 → lost (leaders [] (places (es ++ ms))) < 2 ^ 60 → Roomy name (hearingBy name) K q c
     unfilled-over r₀ r q long begins l ms c stand near few less =
-        over-roomy frameHearing K q c
-        (subst (Unfilled frameHearing K q) (sym stand)
-        (rooms-after (steps-of frameHearing S l) [] [] (Opened K width) (stands-opened K width r₀ r long begins) quiet ms near (omega arith) (omega arith)))
+        over-roomy name (hearingBy name) K q c
+        (subst (Unfilled name (hearingBy name) K q) (sym stand)
+        (rooms-after (steps-of (hearingBy name) S l) [] [] (Opened K width) (stands-opened K width r₀ r long begins) quiet ms near (omega arith) (omega arith)))
 
     pub unfilled : (r₀ r : ChannelRecord) → length (r₀ .slots) ≡ 8 → opening r₀ K width ≡ keeping (done tt) r
-        → (es : List (Event K width)) (cs : List Call) → singly cs ≡ map (callOf S) es → Window (256 ^ width / 2) [] (places es)
-        → length (places es) < 2 ^ 60 → lost (leaders [] (places es)) < 2 ^ 60 → Unfilled frameHearing K r cs
+        → (es : List (Event name K width)) (cs : List Call) → singly cs ≡ map (callOf S) es → Window (256 ^ width / 2) [] (places es)
+        → length (places es) < 2 ^ 60 → lost (leaders [] (places es)) < 2 ^ 60 → Unfilled name (hearingBy name) K r cs
     unfilled r₀ r long begins es cs stand near few less =
-        singly-unfilled frameHearing K cs r
-        (subst (Unfilled frameHearing K r) (sym stand)
+        singly-unfilled name (hearingBy name) K cs r
+        (subst (Unfilled name (hearingBy name) K r) (sym stand)
         (rooms es r [] [] (Opened K width) (stands-opened K width r₀ r long begins) quiet near (omega arith) (omega arith)))

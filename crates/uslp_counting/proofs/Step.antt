@@ -16,13 +16,13 @@ use Rattle.uslp_record.specs.declared.SlotState.the-variants.{Opened, Heard}
 use Rattle.uslp_record.specs.declared.Arrival.{Arrival}
 use Rattle.uslp_record.specs.declared.Arrival.the-variants.{New, Repeat, Late}
 use Rattle.uslp_record.proofs.Count.{not-full}
-use Rattle.uslp_hearing.specs.Hearing.{frameArrival}
+use Rattle.uslp_hearing.specs.Hearing.{Naming, frameArrival}
 use Rattle.uslp_counting.specs.Places.{furthest, aheadOf, Close, lost}
 use Rattle.uslp_counting.specs.History.{Handing, handing, Sender, frameAt, handingAt, following, handings}
 use Rattle.uslp_counting.proofs.Arrival.{countAt, sentAt, handing-new, arrival-repeat, arrival-new, arrival-late}
 use Rattle.uslp_counting.proofs.Lost.{furthest-more, furthest-new, furthest-old, lost-more, lost-one, ahead-yes, ahead-no}
 
-module _ {K : Channel} {width : ℕ} {fecf : Bool} (S : Sender K width fecf) where
+module _ {name : Naming} {K : Channel} {width : ℕ} {fecf : Bool} (S : Sender name K width fecf) where
   -- the state of the channel, after the places seen, of which `before` were handed on
   pub data Counting : List ℕ → List ℕ → SlotState → Type 0 where
     quiet : Counting [] [] (Opened K width)
@@ -52,7 +52,7 @@ module _ {K : Channel} {width : ℕ} {fecf : Bool} (S : Sender K width fecf) whe
       pub leading : List ℕ
       pub counting : Counting (p ∷ seen) leading (Heard K width after)
       pub leads : (ls : List ℕ) → leading ++ ls ≡ before ++ cond (aheadOf seen p) (p ∷ ls) ls
-      pub hands : (ls : List ℕ) → handing K octets (done (frameArrival (sentAt S p) arrival)) ++ handingsAfter (p ∷ seen) ls
+      pub hands : (ls : List ℕ) → handing name K octets (done (frameArrival (sentAt S p) arrival)) ++ handingsAfter (p ∷ seen) ls
           ≡ handingsAfter seen (cond (aheadOf seen p) (p ∷ ls) ls)
 
     advance-first : Advanced [] [] (New 0) (firstTotals (countAt S p))
@@ -100,7 +100,7 @@ module _ {K : Channel} {width : ℕ} {fecf : Bool} (S : Sender K width fecf) whe
           }
 
       -- an arrival that hands nothing on and leaves last and missing
-      advance-behind : (a : Arrival) → p ≤ q → handing K octets (done (frameArrival (sentAt S p) a)) ≡ []
+      advance-behind : (a : Arrival) → p ≤ q → handing name K octets (done (frameArrival (sentAt S p) a)) ≡ []
           → totalsAfter a (countAt S p) t .last ≡ t .last → totalsAfter a (countAt S p) t .missing ≡ t .missing
           → totalsAfter a (countAt S p) t .«handed_on» + totalsAfter a (countAt S p) t .repeats + totalsAfter a (countAt S p) t .late ≡ length (p ∷ k ∷ ks)
           → By a

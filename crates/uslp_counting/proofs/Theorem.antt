@@ -2,7 +2,7 @@
 -- what is missing is what was lost.
 use mathlib.Core.Path.{_≡_, refl, sym, _∙_, ap, subst}
 use mathlib.Core.Bool.{Bool}
-use mathlib.Core.List.{List, [], _∷_, _++_, map, append-nil}
+use mathlib.Core.List.{List, [], _∷_, _++_, map, append-nil, append-assoc}
 use Prim.Native.Nat.{ℕ, _^_, _/_, _≤_}
 use lib.ListN.{length}
 use Rattle.uslp_kinds.specs.Outcome.{done}
@@ -11,106 +11,149 @@ use Rattle.uslp_record.specs.declared.Channel.{Channel}
 use Rattle.uslp_record.specs.declared.SlotState.{SlotState}
 use Rattle.uslp_record.specs.declared.SlotState.the-variants.{Opened}
 use Rattle.uslp_record.specs.declared.ChannelRecord.{ChannelRecord}
-use Rattle.uslp_hearing.specs.Hearing.{frameHearing}
+use Rattle.uslp_hearing.specs.Hearing.{Naming, channelOf, hearingBy, frameHearing}
 use Rattle.uslp_counting.specs.Places.{leaders, Window, lost}
-use Rattle.uslp_counting.specs.History.{Hearer, Call, Handing, called, run, handed, Unfilled, singly, missingFor, Sender, Event, callOf, following, handings, places}
+use Rattle.uslp_counting.specs.History.{Hearer, Call, EachCall, Handing, called, run, handed, Unfilled, singly, missingFor, Sender, Event, callOf, following, handings, placesOf, places}
 use Rattle.uslp_counting.specs.Demand.{Demand3}
 use Rattle.uslp_counting.specs.Restarts.{Leads, Demand3Over}
 use Rattle.uslp_counting.specs.Restarts.Leads.{ends as leads-end, next as leads-next}
+use Rattle.uslp_counting.specs.Updated.{unflagged}
 use Rattle.uslp_counting.proofs.Stands.{Stands, stands-opened}
 use Rattle.uslp_counting.proofs.Singly.{run-singly, handed-singly, unfilled-singly, Steps, steps-of, stands-alone}
 use Rattle.uslp_counting.proofs.Singly.Steps.{ends, next, restart}
+use Rattle.uslp_counting.proofs.Agrees.{Agrees, all-agree}
 use Rattle.uslp_counting.proofs.Restarts.{restart-keeps}
 use Rattle.uslp_counting.proofs.Step.{Counting, quiet, counting-missing, handingsAfter}
 use Rattle.uslp_counting.proofs.Events.{seenWith, window-first, went}
 
--- the places seen after events
-unfoldable pub seenOver : {K : Channel} {width : ℕ} → List ℕ → List (Event K width) → List ℕ
-seenOver seen [] = seen
-seenOver seen (e ∷ es) = seenOver (seenWith e seen) es
-
-module _ {K : Channel} {width : ℕ} {fecf : Bool} (S : Sender K width fecf) where
-  -- Events that led to the record q and handed hs on, after the places seen, of which `before` were handed on: hs is what was to be handed
-  -- on, and the channel stands in q with everything counted, so that what follows can go on from there.
-  pub record Counted (es : List (Event K width)) (hs : List Handing) (q : ChannelRecord) (seen before : List ℕ) : Type 0 where
-    pub hands : hs ≡ handingsAfter S seen (leaders seen (places es))
+module _ {name : Naming} {K : Channel} {width : ℕ} {fecf : Bool} (S : Sender name K width fecf) where
+  -- Events that led to the record q and handed hs on, after the places seen, of which `before` were handed on: the channel stands in q with
+  -- everything counted, so that what follows can go on from there. With the places ps that follow, the leaders are those that were asked
+  -- for, and what is handed on is what they ask for.
+  pub record Counted (es : List (Event name K width)) (hs : List Handing) (q : ChannelRecord) (seen before ps : List ℕ) : Type 0 where
+    pub after : List ℕ
+    pub leading : List ℕ
     pub state : SlotState
     pub stands : Stands K q state
-    pub counting : Counting S (seenOver seen es) (before ++ leaders seen (places es)) state
+    pub counting : Counting S after leading state
+    pub near : Window (256 ^ width / 2) after ps
+    pub leads : leading ++ leaders after ps ≡ before ++ leaders seen (places es ++ ps)
+    pub hands : hs ++ handingsAfter S after (leaders after ps) ≡ handingsAfter S seen (leaders seen (places es ++ ps))
 
-  handings-none : (seen : List ℕ) → [] ≡ handingsAfter S seen []
-  unfolding handings following
+  -- at a console that names channels by `by`, which agrees with `name` on what it hears
+  pub counts : (by : Naming) → 1 ≤ width → width ≤ 7 → {es : List (Event name K width)} {hs : List Handing} {r q : ChannelRecord}
+      → Steps (hearingBy by) S r es hs q → EachCall (Agrees name by K) (map (callOf S) es)
+      → (seen before ps : List ℕ) (t : SlotState) → Stands K r t → Counting S seen before t → Window (256 ^ width / 2) seen (places es ++ ps)
+      → Counted es hs q seen before ps
+  unfolding places
+  counts by lo hi ends agree seen before ps t at c near = record {
+    after = seen;
+    leading = before;
+    state = t;
+    stands = at;
+    counting = c;
+    near = near;
+    leads = refl;
+    hands = refl;
+  }
+  counts by lo hi (next {r = r} {es = es} {hs = hs} e room rest) agree seen before ps t at c near =
+      let tail = places es ++ ps in
+      let split : places (e ∷ es) ++ ps ≡ placesOf e ++ tail = append-assoc (placesOf e) (places es) ps in
+      let w = window-first e seen tail (subst (Window (256 ^ width / 2) seen) split near) in
+      let h = went S by lo hi e (agree .0) r at c (w .0) room in
+      let ih = counts by lo hi rest (agree .1) (seenWith e seen) (h .leading) ps (h .state) (h .stands) (h .counting) (w .1) in
+      let hand = called name (hearingBy by) K r (callOf S e) .0 in
+      record {
+        after = ih .after;
+        leading = ih .leading;
+        state = ih .state;
+        stands = ih .stands;
+        counting = ih .counting;
+        near = ih .near;
+        leads = ih .leads ∙ h .leads tail ∙ sym (ap (λ (l : List ℕ). before ++ leaders seen l) split);
+        hands = append-assoc hand hs (handingsAfter S (ih .after) (leaders (ih .after) ps))
+            ∙ ap (λ (l : List Handing). hand ++ l) (ih .hands) ∙ h .hands tail
+            ∙ sym (ap (λ (l : List ℕ). handingsAfter S seen (leaders seen l)) split);
+      }
+  counts by lo hi (restart g rest) agree seen before ps t at c near =
+      counts by lo hi rest agree seen before ps t (restart-keeps g K t at) c near
+
+  handings-none : (seen : List ℕ) → handingsAfter S seen (leaders seen []) ≡ []
+  unfolding handings following leaders
   handings-none [] = refl
   handings-none (k ∷ ks) = refl
 
-  pub counts : 1 ≤ width → width ≤ 7 → {es : List (Event K width)} {hs : List Handing} {r q : ChannelRecord} → Steps frameHearing S r es hs q
-      → (seen before : List ℕ) (t : SlotState) → Stands K r t → Counting S seen before t → Window (256 ^ width / 2) seen (places es)
-      → Counted es hs q seen before
-  unfolding places leaders seenOver
-  counts lo hi ends seen before t at c near = record {
-    hands = handings-none seen;
-    state = t;
-    stands = at;
-    counting = subst (λ (l : List ℕ). Counting S seen l t) (sym (append-nil before)) c;
-  }
-  counts lo hi (next {r = r} {es = es} e room rest) seen before t at c near =
-      let w = window-first e seen (places es) near in
-      let h = went S lo hi e r at c (w .0) room in
-      let ih = counts lo hi rest (seenWith e seen) (h .leading) (h .state) (h .stands) (h .counting) (w .1) in
-      record {
-        hands = ap (λ (hs : List Handing). called frameHearing K r (callOf S e) .0 ++ hs) (ih .hands) ∙ h .hands (places es);
-        state = ih .state;
-        stands = ih .stands;
-        counting = subst (λ (l : List ℕ). Counting S (seenOver (seenWith e seen) es) l (ih .state)) (h .leads (places es)) (ih .counting);
-      }
-  counts lo hi (restart g rest) seen before t at c near = counts lo hi rest seen before t (restart-keeps g K t at) c near
+  leaders-none : (seen : List ℕ) → leaders seen [] ≡ []
+  unfolding leaders
+  leaders-none seen = refl
 
--- demand 3 over restarts holds of the hearing here
-pub counted-over : Demand3Over frameHearing
-counted-over K width fecf S lo hi r₀ r q long begins es hs l near =
-    let c = counts S lo hi (steps-of frameHearing S l) [] [] (Opened K width) (stands-opened K width r₀ r long begins) quiet near in
-    (c .hands, ap missingOf (c .stands .state) ∙ counting-missing S (c .counting))
+  -- where nothing follows: what was handed on, and what is missing
+  pub counted-all : {es : List (Event name K width)} {hs : List Handing} {q : ChannelRecord} {seen before : List ℕ} → Counted es hs q seen before []
+      → (hs ≡ handingsAfter S seen (leaders seen (places es))) × (missingFor K q ≡ lost (before ++ leaders seen (places es)))
+  counted-all {es} {hs} {q} {seen} {before} c = (
+    sym (append-nil hs) ∙ ap (λ (l : List Handing). hs ++ l) (sym (handings-none (c .after))) ∙ c .hands
+        ∙ ap (λ (l : List ℕ). handingsAfter S seen (leaders seen l)) (append-nil (places es)),
+    ap missingOf (c .stands .state) ∙ counting-missing S (c .counting)
+        ∙ ap lost (sym (append-nil (c .leading)) ∙ ap (λ (l : List ℕ). c .leading ++ l) (sym (leaders-none (c .after))) ∙ c .leads
+        ∙ ap (λ (l : List ℕ). before ++ leaders seen l) (append-nil (places es))),
+  )
+
+-- demand 3 over restarts holds of the hearing that counts as frames are named
+pub counted-over : (name : Naming) → Demand3Over name (hearingBy name)
+counted-over name K width fecf S lo hi r₀ r q long begins es hs l near =
+    counted-all S
+    (counts S name lo hi (steps-of (hearingBy name) S l) (all-agree name K (map (callOf S) es)) [] [] [] (Opened K width)
+    (stands-opened K width r₀ r long begins) quiet (subst (Window (256 ^ width / 2) []) (sym (append-nil (places es))) near))
 
 -- a history of events is a run without restarts
-pub leads-of : (H : Hearer) {K : Channel} {width : ℕ} {fecf : Bool} (S : Sender K width fecf) (es : List (Event K width)) (r : ChannelRecord)
-    → Unfilled H K r (map (callOf S) es) → Leads H S r es (handed H K r (map (callOf S) es)) (run H K r (map (callOf S) es))
+pub leads-of : (H : Hearer) {name : Naming} {K : Channel} {width : ℕ} {fecf : Bool} (S : Sender name K width fecf) (es : List (Event name K width))
+    (r : ChannelRecord)
+    → Unfilled name H K r (map (callOf S) es) → Leads H S r es (handed name H K r (map (callOf S) es)) (run name H K r (map (callOf S) es))
 unfolding handed run Unfilled
 leads-of H S [] r room = leads-end
-leads-of H {K} S (e ∷ es) r room = leads-next (e ∷ []) (callOf S e) (stands-alone H S e) (room .0) (leads-of H S es (called H K r (callOf S e) .1) (room .1))
+leads-of H {name} {K} S (e ∷ es) r room =
+    leads-next (e ∷ []) (callOf S e) (stands-alone H S e) (room .0) (leads-of H S es (called name H K r (callOf S e) .1) (room .1))
 
 -- so any hearing that has demand 3 over restarts has it without them
-pub over : (H : Hearer) → Demand3Over H → Demand3 H
-over H demand K width fecf S lo hi r₀ r long begins es cs stand near room =
-    let l = leads-of H S es r (subst (Unfilled H K r) stand (unfilled-singly H K cs r room)) in
+pub over : (name : Naming) (H : Hearer) → Demand3Over name H → Demand3 name H
+over name H demand K width fecf S lo hi r₀ r long begins es cs stand near room =
+    let l = leads-of H S es r (subst (Unfilled name H K r) stand (unfilled-singly name H K cs r room)) in
     let d = demand K width fecf S lo hi r₀ r _ long begins es _ l near in (
-      handed-singly H K cs r ∙ ap (handed H K r) stand ∙ d .0,
-      ap (missingFor K) (run-singly H K cs r ∙ ap (run H K r) stand) ∙ d .1,
+      handed-singly name H K cs r ∙ ap (handed name H K r) stand ∙ d .0,
+      ap (missingFor K) (run-singly name H K cs r ∙ ap (run name H K r) stand) ∙ d .1,
     )
 
--- demand 3 holds of the hearing here
-pub counted : Demand3 frameHearing
-counted = over frameHearing counted-over
+-- demand 3 holds of the hearing that counts as frames are named
+pub counted-by : (name : Naming) → Demand3 name (hearingBy name)
+counted-by name = over name (hearingBy name) (counted-over name)
+
+-- of the hearing here, and of the one that ignores the flag
+pub counted : Demand3 channelOf frameHearing
+counted = counted-by channelOf
+
+pub counted-unflagged : Demand3 unflagged (hearingBy unflagged)
+counted-unflagged = counted-by unflagged
 
 -- Only arrivals alter what is counted: two runs in which the same places arrive hand on the same, and have the same missing.
-pub unaltered-over : {K : Channel} {width : ℕ} {fecf : Bool} (S : Sender K width fecf) → 1 ≤ width → width ≤ 7
+pub unaltered-over : {K : Channel} {width : ℕ} {fecf : Bool} (S : Sender channelOf K width fecf) → 1 ≤ width → width ≤ 7
     → (r₀ r r₀′ r′ : ChannelRecord) → length (r₀ .slots) ≡ 8 → length (r₀′ .slots) ≡ 8
     → opening r₀ K width ≡ keeping (done tt) r → opening r₀′ K width ≡ keeping (done tt) r′
-    → {q q′ : ChannelRecord} {es es′ : List (Event K width)} {hs hs′ : List Handing}
+    → {q q′ : ChannelRecord} {es es′ : List (Event channelOf K width)} {hs hs′ : List Handing}
     → Leads frameHearing S r es hs q → Leads frameHearing S r′ es′ hs′ q′ → places es ≡ places es′ → Window (256 ^ width / 2) [] (places es)
     → (hs ≡ hs′) × (missingFor K q ≡ missingFor K q′)
 unaltered-over {K} {width} {fecf} S lo hi r₀ r r₀′ r′ long long′ begins begins′ {q} {q′} {es} {es′} {hs} {hs′} l l′ same near =
-    let a = counted-over K width fecf S lo hi r₀ r q long begins es hs l near in
-    let b = counted-over K width fecf S lo hi r₀′ r′ q′ long′ begins′ es′ hs′ l′ (subst (Window (256 ^ width / 2) []) same near) in
+    let a = counted-over channelOf K width fecf S lo hi r₀ r q long begins es hs l near in
+    let b = counted-over channelOf K width fecf S lo hi r₀′ r′ q′ long′ begins′ es′ hs′ l′ (subst (Window (256 ^ width / 2) []) same near) in
     (a .0 ∙ ap (λ (ps : List ℕ). handings S (leaders [] ps)) same ∙ sym (b .0), a .1 ∙ ap (λ (ps : List ℕ). lost (leaders [] ps)) same ∙ sym (b .1))
 
 -- the same of histories without restarts
-pub unaltered : {K : Channel} {width : ℕ} {fecf : Bool} (S : Sender K width fecf) → 1 ≤ width → width ≤ 7
+pub unaltered : {K : Channel} {width : ℕ} {fecf : Bool} (S : Sender channelOf K width fecf) → 1 ≤ width → width ≤ 7
     → (r₀ r r₀′ r′ : ChannelRecord) → length (r₀ .slots) ≡ 8 → length (r₀′ .slots) ≡ 8
     → opening r₀ K width ≡ keeping (done tt) r → opening r₀′ K width ≡ keeping (done tt) r′
-    → (es es′ : List (Event K width)) (cs cs′ : List Call) → singly cs ≡ map (callOf S) es → singly cs′ ≡ map (callOf S) es′
-    → places es ≡ places es′ → Window (256 ^ width / 2) [] (places es) → Unfilled frameHearing K r cs → Unfilled frameHearing K r′ cs′
-    → (handed frameHearing K r cs ≡ handed frameHearing K r′ cs′)
-    × (missingFor K (run frameHearing K r cs) ≡ missingFor K (run frameHearing K r′ cs′))
+    → (es es′ : List (Event channelOf K width)) (cs cs′ : List Call) → singly cs ≡ map (callOf S) es → singly cs′ ≡ map (callOf S) es′
+    → places es ≡ places es′ → Window (256 ^ width / 2) [] (places es) → Unfilled channelOf frameHearing K r cs → Unfilled channelOf frameHearing K r′ cs′
+    → (handed channelOf frameHearing K r cs ≡ handed channelOf frameHearing K r′ cs′)
+    × (missingFor K (run channelOf frameHearing K r cs) ≡ missingFor K (run channelOf frameHearing K r′ cs′))
 unaltered {K} {width} {fecf} S lo hi r₀ r r₀′ r′ long long′ begins begins′ es es′ cs cs′ stand stand′ same near room room′ =
     let a = counted K width fecf S lo hi r₀ r long begins es cs stand near room in
     let b = counted K width fecf S lo hi r₀′ r′ long′ begins′ es′ cs′ stand′ (subst (Window (256 ^ width / 2) []) same near) room′ in

@@ -1,4 +1,4 @@
--- There is a sender for every width and FECF choice, so that what `counted` asks can be met.
+-- There is a sender for every flag, first count, width and FECF choice, so that what `counted` asks can be met.
 use mathlib.Core.Path.{_≡_, refl}
 use mathlib.Core.Bool.{Bool, false, cond}
 use mathlib.Core.List.{List, [], _∷_}
@@ -10,6 +10,7 @@ use Rattle.uslp_octets.specs.Octets.{AreOctets}
 use Rattle.uslp_octets.proofs.Laws.{pos}
 use Rattle.uslp_kinds.specs.Outcome.{done}
 use Rattle.uslp_kinds.specs.declared.SourceOrDestField.the-variants.{Dest}
+use Rattle.uslp_kinds.specs.declared.BypassSequenceControlFlag.{BypassSequenceControlFlag}
 use Rattle.uslp_kinds.specs.declared.BypassSequenceControlFlag.the-variants.{SequenceControlledQoS}
 use Rattle.uslp_kinds.specs.declared.ProtocolControlCommandFlag.the-variants.{TfdfContainsUserData}
 use Rattle.uslp_kinds.specs.declared.ConstructionRule.the-variants.{NoSegmentation}
@@ -22,11 +23,15 @@ use Rattle.uslp_data_field_header.specs.Field.{fieldChecking}
 use Rattle.uslp_data_field_header.specs.declared.TransferFrameDataFieldHeader.{TransferFrameDataFieldHeader}
 use Rattle.uslp_layout.proofs.Laws.{cond-le}
 use Rattle.uslp_record.specs.declared.Channel.{Channel}
+use Rattle.uslp_hearing.specs.Hearing.{channelOf}
 use Rattle.uslp_counting.specs.History.{Sender}
 
--- channel 5 of spacecraft 0x1234
+-- channel 5 of spacecraft 0x1234, by flag; the sequence-controlled one
+abbrev pub craftBy : BypassSequenceControlFlag → Channel
+craftBy flag = record { «spacecraft_id» = 0x1234; «vc_id» = 5; «sequence_control_flag» = flag }
+
 abbrev pub craft : Channel
-craft = record { «spacecraft_id» = 0x1234; «vc_id» = 5 }
+craft = craftBy SequenceControlledQoS
 
 -- a reading of two octets
 abbrev pub reading : List ℕ
@@ -44,7 +49,7 @@ pub whole-passes : fieldChecking whole ≡ done whole
 unfolding fieldChecking
 whole-passes = refl
 
-module _ (width : ℕ) (narrow : width ≤ 7) (fecf : Bool) where
+module _ (flag : BypassSequenceControlFlag) (start width : ℕ) (narrow : width ≤ 7) (fecf : Bool) where
   abbrev pub headerAt : ℕ → PrimaryHeader
   headerAt p =
       record {
@@ -53,16 +58,16 @@ module _ (width : ℕ) (narrow : width ≤ 7) (fecf : Bool) where
         «vc_id» = 5;
         «map_id» = 3;
         «frame_len_field» = 9 + width + cond fecf 2 0;
-        «sequence_control_flag» = SequenceControlledQoS;
+        «sequence_control_flag» = flag;
         «protocol_control_command_flag» = TfdfContainsUserData;
         «ocf_flag» = false;
         «vc_frame_count_len» = width;
-        «vc_frame_count» = (0 + p) % 256 ^ width;
+        «vc_frame_count» = (start + p) % 256 ^ width;
       }
 
-  unfoldable pub oven : Sender craft width fecf
+  unfoldable pub oven : Sender channelOf (craftBy flag) width fecf
   oven = record {
-    start = 0;
+    start = start;
     header = headerAt;
     field = λ p. whole;
     contents = λ p. reading;
@@ -72,7 +77,7 @@ module _ (width : ℕ) (narrow : width ≤ 7) (fecf : Bool) where
       header-fits = record {
         spacecraft-fits = lit< tt;
         length-fits = omega (arith, cond-le fecf 2 0 (omega arith));
-        checks-pass = checks-done (headerAt p) (omega arith) (omega arith) narrow (mod-lt (0 + p) (pos width));
+        checks-pass = checks-done (headerAt p) (omega arith) (omega arith) narrow (mod-lt (start + p) (pos width));
       };
       field-fits = record { pointer-fits = λ q e. let z : _≡_ {A = ℕ} 0 1 = cc in absurd (omega arith); checks-pass = whole-passes };
       contents-fit = are-octets;

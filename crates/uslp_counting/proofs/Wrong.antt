@@ -20,7 +20,7 @@ use Rattle.uslp_counting.proofs.Witness.{craft}
 use Rattle.uslp_counting.proofs.Instance.{sender, begun, begins, two, calls, near, lost-two}
 
 -- an answer hands one frame on at the most
-one-at-most : (K : Channel) (s : List ℕ) (o : Outcome FrameArrival) → length (handing K s o) ≤ 1
+one-at-most : (K : Channel) (s : List ℕ) (o : Outcome FrameArrival) → length (handing channelOf K s o) ≤ 1
 one-at-most K s (done (New gap x)) = go (sameChannel (channelOf (x .«primary_header»)) K)
   where
     go : (b : Bool) → length {A = Handing} (cond b ((gap, x, contentsIn x s) ∷ []) []) ≤ 1
@@ -34,9 +34,9 @@ one-at-most K s (refused k vs) = omega arith
 abbrev sent : ℕ → List ℕ
 sent p = frameAt sender p ++ []
 
-module _ (H : Hearer) (demand : Demand3 H) (room : (q : ℕ) → Unfilled H craft begun (calls 0 q)) where
+module _ (H : Hearer) (demand : Demand3 channelOf H) (room : (q : ℕ) → Unfilled channelOf H craft begun (calls 0 q)) where
   -- what is missing after 0 and q comes from the places sent
-  pub missing-two : (q : ℕ) → 0 < q → q ≤ 128 → missingFor craft (run H craft begun (calls 0 q)) ≡ q - 1
+  pub missing-two : (q : ℕ) → 0 < q → q ≤ 128 → missingFor craft (run channelOf H craft begun (calls 0 q)) ≡ q - 1
   missing-two q some few =
       demand craft 1 false sender (omega arith) (omega arith) emptyRecord begun refl begins (two 0 q) (calls 0 q) refl (near q few) (room q) .1
       ∙ lost-two q some
@@ -65,6 +65,7 @@ module _ (H : Hearer) (demand : Demand3 H) (room : (q : ℕ) → Unfilled H craf
       (room 2) .0 in
       let a = ap length h in
       let b = one-at-most craft (sent 0) first in
-      let c = ap (λ (o : Outcome FrameArrival). length (handing craft (sent 0) first ++ (handing craft (sent 2) o ++ []))) (repeats later) in
-      let d = length-append (handing craft (sent 0) first) [] in
+      let c =
+      ap (λ (o : Outcome FrameArrival). length (handing channelOf craft (sent 0) first ++ (handing channelOf craft (sent 2) o ++ []))) (repeats later) in
+      let d = length-append (handing channelOf craft (sent 0) first) [] in
       omega (arith, a, b, c, d)

@@ -34,7 +34,3 @@ Given (hears s fecf) = AreOctets s
 Given (hears-many s fecf) = AreOctets s
 Given (opens k width) = k .«spacecraft_id» < 2 ^ 16
 Given (closes k) = Unit {0}
-
-abbrev pub GivenAll : List Call → Type 0
-GivenAll [] = Unit {0}
-GivenAll (c ∷ cs) = Given c × GivenAll cs

@@ -16,7 +16,7 @@ use Rattle.uslp_record.specs.Record.{Kept, keeping, opening, closing, missingOf
 use Rattle.uslp_record.specs.declared.Channel.{Channel}
 use Rattle.uslp_record.specs.declared.ChannelRecord.{ChannelRecord}
 use Rattle.uslp_roundtrip.specs.Laid.{frameOf}
-use Rattle.uslp_hearing.specs.Hearing.{channelOf}
+use Rattle.uslp_hearing.specs.Hearing.{Naming}
 use Rattle.uslp_hearing.specs.declared.FrameArrival.{FrameArrival}
 use Rattle.uslp_hearing.specs.declared.FrameArrival.the-variants.{New, Repeat, Late}
 
@@ -31,6 +31,11 @@ pub data Call : Type 0 where
   opens : Channel → ℕ → Call
   closes : Channel → Call
 
+-- it holds of each call
+abbrev pub EachCall : (Call → Type 0) → List Call → Type 0
+EachCall P [] = Unit {0}
+EachCall P (c ∷ cs) = P c × EachCall P cs
+
 abbrev pub recordOf : {A : Type 0} → Kept A → ChannelRecord
 recordOf (keeping o r) = r
 
@@ -41,17 +46,20 @@ answerOf (keeping o r) = o
 abbrev pub Handing : Type 0
 Handing = ℕ × TransferFrame × List ℕ
 
--- what one hearing of the octets s hands on for the channel K
-abbrev pub handing : Channel → List ℕ → Outcome FrameArrival → List Handing
-handing K s (done (New gap x)) = cond (sameChannel (channelOf (x .«primary_header»)) K) ((gap, x, contentsIn x s) ∷ []) []
-handing K s (done Repeat) = []
-handing K s (done Late) = []
-handing K s (refused k vs) = []
+-- All that follows is said over how a frame names its channel, `name`: by spacecraft, number and flag as here, or in any other way.
 
-module _ (H : Hearer) (K : Channel) where
+-- what one hearing of the octets s hands on for the channel K
+module _ (name : Naming) where
+  abbrev pub handing : Channel → List ℕ → Outcome FrameArrival → List Handing
+  handing K s (done (New gap x)) = cond (sameChannel (name (x .«primary_header»)) K) ((gap, x, contentsIn x s) ∷ []) []
+  handing K s (done Repeat) = []
+  handing K s (done Late) = []
+  handing K s (refused k vs) = []
+
+module _ (name : Naming) (H : Hearer) (K : Channel) where
   -- what hearing octets hands on for the channel K, and the record after it
   abbrev pub heard : ChannelRecord → List ℕ → Bool → List Handing × ChannelRecord
-  heard r s fecf = (handing K s (answerOf (H r s fecf)), recordOf (H r s fecf))
+  heard r s fecf = (handing name K s (answerOf (H r s fecf)), recordOf (H r s fecf))
 
   -- the same of frames that are heard one after the other
   unfoldable pub heardAll : ChannelRecord → List (TransferFrame × List ℕ) → Bool → List Handing × ChannelRecord
@@ -71,7 +79,7 @@ module _ (H : Hearer) (K : Channel) where
   -- a hearing does not get TOTAL_FULL for a frame of the channel K
   abbrev pub NotFull : ChannelRecord → List ℕ → Bool → Type 0
   NotFull r s fecf =
-      (x : TransferFrame) → frameReading s fecf ≡ done x → sameChannel (channelOf (x .«primary_header»)) K ≡ true → answerOf (H r s fecf) ≡ refused 17 [] → ⊥
+      (x : TransferFrame) → frameReading s fecf ≡ done x → sameChannel (name (x .«primary_header»)) K ≡ true → answerOf (H r s fecf) ≡ refused 17 [] → ⊥
 
   unfoldable pub NoneFull : ChannelRecord → List (TransferFrame × List ℕ) → Bool → Type 0
   NoneFull r [] fecf = Unit {0}
@@ -113,7 +121,7 @@ abbrev pub missingFor : Channel → ChannelRecord → ℕ
 missingFor K r = missingOf (stateAt r (find K (r .slots)))
 
 -- the sender of the channel K: a frame of the layout for each place, of this width, numbered consecutively
-pub record Sender (K : Channel) (width : ℕ) (fecf : Bool) : Type 0 where
+pub record Sender (name : Naming) (K : Channel) (width : ℕ) (fecf : Bool) : Type 0 where
   pub start : ℕ
   pub header : ℕ → PrimaryHeader
   pub field : ℕ → TransferFrameDataFieldHeader
@@ -122,31 +130,31 @@ pub record Sender (K : Channel) (width : ℕ) (fecf : Bool) : Type 0 where
   pub spare : ℕ → ℕ
   pub well-formed : (p : ℕ) → WellFormed fecf (header p) (field p) (contents p) (ocf p)
   pub spare-fits : (p : ℕ) → spare p < 4
-  pub of-channel : (p : ℕ) → channelOf (header p) ≡ K
+  pub of-channel : (p : ℕ) → name (header p) ≡ K
   pub of-width : (p : ℕ) → header p .«vc_frame_count_len» ≡ width
   pub numbered : (p : ℕ) → header p .«vc_frame_count» ≡ (start + p) % 256 ^ width
 
 -- the octets of the frame at a place
-abbrev pub frameAt : {K : Channel} {width : ℕ} {fecf : Bool} → Sender K width fecf → ℕ → List ℕ
+abbrev pub frameAt : {name : Naming} {K : Channel} {width : ℕ} {fecf : Bool} → Sender name K width fecf → ℕ → List ℕ
 frameAt {fecf = fecf} S p = layout fecf (S .spare p) (S .header p) (S .field p) (S .contents p) (S .ocf p)
 
 -- What may happen while the channel K is open: the undamaged frame at a place arrives, perhaps with octets behind it; octets that the
 -- reader refuses; a frame of another channel; a frame of this channel in another width; other channels are opened and closed; this one
 -- is opened again.
-pub data Event (K : Channel) (width : ℕ) : Type 0 where
-  arrives : ℕ → List ℕ → Event K width
-  damaged : (s : List ℕ) (fecf : Bool) (k : ℕ) (vs : List ℕ) → frameReading s fecf ≡ refused k vs → Event K width
-  elsewhere : (s : List ℕ) (fecf : Bool) (x : TransferFrame) → frameReading s fecf ≡ done x → sameChannel (channelOf (x .«primary_header»)) K ≡ false
-      → Event K width
+pub data Event (name : Naming) (K : Channel) (width : ℕ) : Type 0 where
+  arrives : ℕ → List ℕ → Event name K width
+  damaged : (s : List ℕ) (fecf : Bool) (k : ℕ) (vs : List ℕ) → frameReading s fecf ≡ refused k vs → Event name K width
+  elsewhere : (s : List ℕ) (fecf : Bool) (x : TransferFrame) → frameReading s fecf ≡ done x → sameChannel (name (x .«primary_header»)) K ≡ false
+      → Event name K width
   misfits : (s : List ℕ) (fecf : Bool) (x : TransferFrame) → frameReading s fecf ≡ done x → (x .«primary_header» .«vc_frame_count_len» ≡ width → ⊥)
-      → Event K width
-  opened : (k : Channel) (w : ℕ) → sameChannel k K ≡ false → Event K width
-  closed : (k : Channel) → sameChannel k K ≡ false → Event K width
-  again : ℕ → Event K width
+      → Event name K width
+  opened : (k : Channel) (w : ℕ) → sameChannel k K ≡ false → Event name K width
+  closed : (k : Channel) → sameChannel k K ≡ false → Event name K width
+  again : ℕ → Event name K width
 
-module _ {K : Channel} {width : ℕ} {fecf : Bool} (S : Sender K width fecf) where
+module _ {name : Naming} {K : Channel} {width : ℕ} {fecf : Bool} (S : Sender name K width fecf) where
   -- the call that the console makes
-  abbrev pub callOf : Event K width → Call
+  abbrev pub callOf : Event name K width → Call
   callOf (arrives p behind) = hears (frameAt S p ++ behind) fecf
   callOf (damaged s f k vs e) = hears s f
   callOf (elsewhere s f x e o) = hears s f
@@ -169,8 +177,8 @@ module _ {K : Channel} {width : ℕ} {fecf : Bool} (S : Sender K width fecf) whe
   handings (p ∷ ps) = handingAt 0 p ∷ following p ps
 
 -- the places that arrive, in order
-module _ {K : Channel} {width : ℕ} where
-  abbrev pub placesOf : Event K width → List ℕ
+module _ {name : Naming} {K : Channel} {width : ℕ} where
+  abbrev pub placesOf : Event name K width → List ℕ
   placesOf (arrives p behind) = p ∷ []
   placesOf (damaged s f k vs e) = []
   placesOf (elsewhere s f x e o) = []
@@ -179,6 +187,6 @@ module _ {K : Channel} {width : ℕ} where
   placesOf (closed k o) = []
   placesOf (again w) = []
 
-  unfoldable pub places : List (Event K width) → List ℕ
+  unfoldable pub places : List (Event name K width) → List ℕ
   places [] = []
   places (e ∷ es) = placesOf e ++ places es

@@ -3,4 +3,5 @@ pub mod History
 pub mod Demand
 pub mod Console
 pub mod Restarts
+pub mod Updated
 pub mod Blocks

@@ -13,7 +13,7 @@ use Rattle.uslp_record.specs.declared.Channel.{Channel}
 use Rattle.uslp_record.specs.declared.ChannelRecord.{ChannelRecord}
 use Rattle.uslp_form.specs.Form.{Form, Fitting}
 use Rattle.uslp_form.specs.Saved.{saving, Restoring}
-use Rattle.uslp_hearing.specs.Hearing.{frameHearing}
+use Rattle.uslp_hearing.specs.Hearing.{Naming, frameHearing}
 use Rattle.uslp_many.specs.Many.{manyHearing}
 use Rattle.uslp_counting.specs.Places.{leaders, Window, lost}
 use Rattle.uslp_counting.specs.History.{Hearer, Call, recordOf, Handing, called, Roomy, standsFor, missingFor, Sender, Event, callOf, handings, places}
@@ -34,19 +34,19 @@ pub data Restart : ChannelRecord → ChannelRecord → Type 0 where
 
 -- From the record r, calls that stand for the events es lead over restarts to the record q and hand hs on, and no hearing of the channel's
 -- frames gets TOTAL_FULL. Any other restoring that is done is no step here: it ends the run, as a closing of the channel does.
-module _ (H : Hearer) {K : Channel} {width : ℕ} {fecf : Bool} (S : Sender K width fecf) where
-  pub data Leads : ChannelRecord → List (Event K width) → List Handing → ChannelRecord → Type 0 where
+module _ {name : Naming} (H : Hearer) {K : Channel} {width : ℕ} {fecf : Bool} (S : Sender name K width fecf) where
+  pub data Leads : ChannelRecord → List (Event name K width) → List Handing → ChannelRecord → Type 0 where
     ends : {r : ChannelRecord} → Leads r [] [] r
-    next : {r q : ChannelRecord} {es : List (Event K width)} {hs : List Handing} (ms : List (Event K width)) (c : Call)
-        → standsFor c ≡ map (callOf S) ms → Roomy H K r c → Leads (called H K r c .1) es hs q → Leads r (ms ++ es) (called H K r c .0 ++ hs) q
-    restart : {r m q : ChannelRecord} {es : List (Event K width)} {hs : List Handing} → Restart r m → Leads m es hs q → Leads r es hs q
+    next : {r q : ChannelRecord} {es : List (Event name K width)} {hs : List Handing} (ms : List (Event name K width)) (c : Call)
+        → standsFor c ≡ map (callOf S) ms → Roomy name H K r c → Leads (called name H K r c .1) es hs q → Leads r (ms ++ es) (called name H K r c .0 ++ hs) q
+    restart : {r m q : ChannelRecord} {es : List (Event name K width)} {hs : List Handing} → Restart r m → Leads m es hs q → Leads r es hs q
 
 -- Demand 3 over restarts: `Demand3`, with such a run for its history.
-abbrev pub Demand3Over : Hearer → Type 0
-Demand3Over H =
-    (K : Channel) (width : ℕ) (fecf : Bool) (S : Sender K width fecf) → 1 ≤ width → width ≤ 7
+abbrev pub Demand3Over : Naming → Hearer → Type 0
+Demand3Over name H =
+    (K : Channel) (width : ℕ) (fecf : Bool) (S : Sender name K width fecf) → 1 ≤ width → width ≤ 7
     → (r₀ r q : ChannelRecord) → length (r₀ .slots) ≡ 8 → opening r₀ K width ≡ keeping (done tt) r
-    → (es : List (Event K width)) (hs : List Handing) → Leads H S r es hs q → Window (256 ^ width / 2) [] (places es)
+    → (es : List (Event name K width)) (hs : List Handing) → Leads H S r es hs q → Window (256 ^ width / 2) [] (places es)
     → (hs ≡ handings S (leaders [] (places es))) × (missingFor K q ≡ lost (leaders [] (places es)))
 
 -- a record that calls made, done or refused, from the empty record

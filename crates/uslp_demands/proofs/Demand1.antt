@@ -25,7 +25,7 @@ use Rattle.uslp_writer.specs.declared.TransferFrameCreatorWithReservedData.{Tra
 use Rattle.uslp_writer.specs.declared.ReservedAnswer.the-variants as reserved-answer
 use Rattle.uslp_kinds.specs.declared.DoneAnswer.the-variants as done-answer
 use Rattle.uslp_record.specs.declared.ChannelRecord.{ChannelRecord}
-use Rattle.uslp_form.specs.Form.{formOf}
+use Rattle.uslp_form.specs.Form.{anyLacks, formOf}
 use Rattle.uslp_form.specs.Form.Form.{one}
 use Rattle.uslp_form.specs.Saved.{saving}
 use Rattle.uslp_form.proofs.Rows.{restores-refused}
@@ -110,7 +110,7 @@ module _ (r : Refusal) (s : RefT (List ℕ)) (left : List ℕ) where
   unfolding saving
   save-kept κs q e =
       let n = length (formOf one q) in
-      refused-keeps (firstOf (short (now s) n) (done n)) (formOf one q ++ drop n (now s)) (now s) (sym e)
+      refused-keeps (firstOf ((anyLacks one (q .slots), refused 19 []) ∷ short (now s) n) (done n)) (formOf one q ++ drop n (now s)) (now s) (sym e)
 
 -- the intake's own refusals
 pub take-block-kept : (r : Refusal) (s left : List ℕ) (held : ℕ) (block : List ℕ) (fecf : Bool) → Takes s held block fecf (intake-answer.Refused r) left

@@ -5,9 +5,12 @@ use mathlib.Core.List.{List, [], _∷_}
 use Prim.Native.Nat.{ℕ}
 use native.Mathlib.Omega.{arith}
 use denote.Ref.{RefT, now}
+use Rattle.uslp_kinds.specs.Kinds.{bypassNumber}
+use Rattle.uslp_kinds.specs.declared.BypassSequenceControlFlag.the-variants.{SequenceControlledQoS, ExpeditedQoS}
 use Rattle.uslp_kinds.proofs.Back.{back, one-to-one}
 use Rattle.uslp_kinds.proofs.Outcomes.{done-one}
 use Rattle.uslp_primary_header.specs.Header.{headerReading}
+use Rattle.uslp_primary_header.specs.declared.PrimaryHeader.{PrimaryHeader}
 use Rattle.uslp_data_field_header.specs.Field.{fieldReading}
 use Rattle.uslp_reader.specs.Reader.{frameReading}
 use Rattle.uslp_record.specs.Slots.{find, stateAt, put, emptyRecord}
@@ -49,7 +52,7 @@ fn-channel-of = function hearing.channel_of.Kinds.ps hearing.channel_of.Kinds.r 
 
 -- a channel open in the first slot, and not heard yet; and how many frames the first slot has handed on
 abbrev opened : ChannelRecord
-opened = put emptyRecord 0 (Opened (record { «spacecraft_id» = 0x1234; «vc_id» = 5 }) 1)
+opened = put emptyRecord 0 (Opened (record { «spacecraft_id» = 0x1234; «vc_id» = 5; «sequence_control_flag» = SequenceControlledQoS }) 1)
 
 abbrev handedIn : SlotState → ℕ
 handedIn Closed = 0
@@ -127,9 +130,17 @@ pub channel-of-settles : Settles fn-channel-of
 channel-of-settles = record { total = λ κs a. tt; same = λ κs a x y s t. alike (s ∙ sym t) refl }
 
 -- the map id for the channel number
-pub channel-of-map : Allows fn-channel-of tt (some, tt) (record { «spacecraft_id» = 0x1234; «vc_id» = 3 }, (tt, tt)) → ⊥
+pub channel-of-map : Allows fn-channel-of tt (some, tt)
+    (record { «spacecraft_id» = 0x1234; «vc_id» = 3; «sequence_control_flag» = SequenceControlledQoS }, (tt, tt)) → ⊥
 channel-of-map e = let z : _≡_ {A = ℕ} 3 5 = ap (λ (k : Channel). k .«vc_id») e in omega arith
 
 -- the channel number alone
-pub channel-of-number : Allows fn-channel-of tt (some, tt) (record { «spacecraft_id» = 0; «vc_id» = 5 }, (tt, tt)) → ⊥
+pub channel-of-number : Allows fn-channel-of tt (some, tt)
+    (record { «spacecraft_id» = 0; «vc_id» = 5; «sequence_control_flag» = SequenceControlledQoS }, (tt, tt)) → ⊥
 channel-of-number e = let z : _≡_ {A = ℕ} 0 0x1234 = ap (λ (k : Channel). k .«spacecraft_id») e in omega arith
+
+-- the flag ignored: an expedited frame taken for one of the sequence-controlled channel
+pub channel-of-flag : (h : PrimaryHeader) (k : Channel) → h .«sequence_control_flag» ≡ ExpeditedQoS → k .«sequence_control_flag» ≡ SequenceControlledQoS
+    → Allows fn-channel-of tt (h, tt) (k, (tt, tt)) → ⊥
+channel-of-flag h k a b e =
+    let z : _≡_ {A = ℕ} 0 1 = ap bypassNumber (sym b ∙ ap (λ (c : Channel). c .«sequence_control_flag») e ∙ a) in omega arith

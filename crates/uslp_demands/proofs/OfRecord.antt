@@ -11,6 +11,8 @@ use Rattle.uslp_kinds.specs.declared.Refusal.the-variants.{NotOpen, TotalFull}
 use Rattle.uslp_record.specs.Slots.{find, vacant, slotOf, stateAt, put, emptyRecord}
 use Rattle.uslp_record.specs.Record.{Kept, keeping, paperTotal, paperState, opening, closing, showing, missingIn, tooMuchIn, consoleTotal}
 use Rattle.uslp_record.specs.Judging.{paperCount, paperSlot, judging, slotJudging}
+use Rattle.uslp_kinds.specs.declared.BypassSequenceControlFlag.the-variants.{SequenceControlledQoS, ExpeditedQoS}
+use Rattle.uslp_record.specs.declared.Channel.{Channel}
 use Rattle.uslp_record.specs.declared.ChannelRecord.{ChannelRecord}
 use Rattle.uslp_record.specs.declared.SlotState.{SlotState}
 use Rattle.uslp_record.specs.declared.SlotState.the-variants.{Closed, Opened, Heard}
@@ -24,7 +26,7 @@ use Rattle.uslp_record.specs.declared.Slot.{Slot}
 use Rattle.uslp_record.specs.declared.SlotAnswer.the-variants as slot-answer
 use Rattle.uslp_record.proofs.Back.{total-back, state-back, count-back, slot-back, keeping-one}
 use Rattle.uslp_record.proofs as channels
-use Rattle.uslp_demands.specs.Promise.{Function, function, Allows, Settles}
+use Rattle.uslp_demands.specs.Promise.{Function, function, Allows, Settles, Program, Keeps}
 use Rattle.uslp_demands.specs.Cases.{channel, lastHeard}
 use Rattle.uslp_demands.proofs.Alike.{alike, done-alike}
 
@@ -177,12 +179,22 @@ pub same-channel-settles : Settles fn-same-channel
 same-channel-settles = record { total = λ κs a. tt; same = λ κs a x y s t. alike (s ∙ sym t) refl }
 
 -- compares the channel number alone
-pub same-channel-number : Allows fn-same-channel tt (channel, (record { «spacecraft_id» = 0; «vc_id» = 5 }, tt)) (true, (tt, (tt, tt))) → ⊥
+pub same-channel-number : Allows fn-same-channel tt
+    (channel, (record { «spacecraft_id» = 0; «vc_id» = 5; «sequence_control_flag» = SequenceControlledQoS }, tt)) (true, (tt, (tt, tt))) → ⊥
 same-channel-number e = let z : _≡_ {A = ℕ} 0 1 = cc in omega arith
 
 -- compares the spacecraft alone
-pub same-channel-craft : Allows fn-same-channel tt (channel, (record { «spacecraft_id» = 0x1234; «vc_id» = 6 }, tt)) (true, (tt, (tt, tt))) → ⊥
+pub same-channel-craft : Allows fn-same-channel tt
+    (channel, (record { «spacecraft_id» = 0x1234; «vc_id» = 6; «sequence_control_flag» = SequenceControlledQoS }, tt)) (true, (tt, (tt, tt))) → ⊥
 same-channel-craft e = let z : _≡_ {A = ℕ} 0 1 = cc in omega arith
+
+-- the expedited channel of the same number
+abbrev rushed : Channel
+rushed = record { «spacecraft_id» = 0x1234; «vc_id» = 5; «sequence_control_flag» = ExpeditedQoS }
+
+-- ignores the flag
+pub same-channel-flag : Allows fn-same-channel tt (channel, (rushed, tt)) (true, (tt, (tt, tt))) → ⊥
+same-channel-flag e = let z : _≡_ {A = ℕ} 0 1 = cc in omega arith
 
 pub search-settles : Settles fn-search
 search-settles = record { total = λ κs a. tt; same = λ κs a x y s t. alike (s ∙ sym t) refl }
@@ -196,6 +208,15 @@ search-last e = omega arith
 pub search-zero : Allows fn-search tt (emptyRecord, (channel, tt)) (0, (tt, (tt, tt))) → ⊥
 unfolding find
 search-zero e = omega arith
+
+-- a search that ignores the flag: it finds the same slot for both channels of a number
+pub search-flag : (f : Program fn-search) → Keeps fn-search f
+    → ((r : ChannelRecord) (a b : Channel) → a .«spacecraft_id» ≡ b .«spacecraft_id» → a .«vc_id» ≡ b .«vc_id» → f tt (r, (a, tt)) .0 ≡ f tt (r, (b, tt)) .0)
+    → ⊥
+unfolding find
+search-flag f keeps same =
+    let z : _≡_ {A = ℕ} 0 8 =
+    sym (keeps tt (opened, (channel, tt))) ∙ same opened channel rushed refl refl ∙ keeps tt (opened, (rushed, tt)) in omega arith
 
 pub with-change-settles : Settles fn-with-change
 with-change-settles = record { total = λ κs a. tt; same = λ κs a x y s t. alike (s ∙ sym t) refl }

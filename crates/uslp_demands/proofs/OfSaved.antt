@@ -1,28 +1,30 @@
 -- The promises of `uslp_saved` settle each call, and shut out the tempting wrong programs.
-use mathlib.Core.Path.{_≡_, refl, sym, ap, _∙_}
+use mathlib.Core.Path.{_≡_, refl, sym, _∙_, subst}
 use mathlib.Core.List.{List, [], _∷_, _++_}
 use mathlib.Core.Bool.{true}
 use Prim.Native.Nat.{ℕ, _^_, _<_, _≤_}
 use native.Mathlib.Omega.{arith}
 use lib.ListN.{length}
-use Rattle.uslp_kinds.specs.Outcome.{done, refused}
+use Rattle.uslp_kinds.specs.Outcome.{done, refused, Written, leaving}
 use Rattle.uslp_kinds.specs.Answers.{paperDone, paperLength}
 use Rattle.uslp_kinds.proofs.Back.{back, one-to-one, length-back, leaving-one}
 use Rattle.uslp_kinds.specs.declared.LengthAnswer.the-variants as length-answer
+use Rattle.uslp_kinds.proofs.Outcomes.{not-done}
 use Rattle.uslp_record.specs.Slots.{stateHolds}
 use Rattle.uslp_record.specs.Record.{Kept, keeping}
 use Rattle.uslp_record.specs.declared.Channel.{Channel}
 use Rattle.uslp_record.specs.declared.Totals.{Totals}
 use Rattle.uslp_record.specs.declared.SlotState.{SlotState}
-use Rattle.uslp_record.specs.declared.SlotState.the-variants.{Opened, Heard}
+use Rattle.uslp_record.specs.declared.SlotState.the-variants.{Heard}
 use Rattle.uslp_record.specs.declared.ChannelRecord.{ChannelRecord}
 use Rattle.uslp_record.proofs.Back.{keeping-one}
 use Rattle.uslp_form.specs.Entries.{isOpened, isHeard, Each, Once}
-use Rattle.uslp_form.specs.Form.{rows, insert, sorted, form, GoodForm}
+use Rattle.uslp_form.specs.Form.{anyLacks, rows, insert, sorted, form, GoodForm}
 use Rattle.uslp_form.specs.Form.Form.{one}
 use Rattle.uslp_form.specs.Saved.{saving, Restoring}
 use Rattle.uslp_form.proofs.Each.{Has}
 use Rattle.uslp_form.proofs.Rows.{Entry, restoring-one}
+use Rattle.uslp_form.proofs.Flags.{Expedited, lacks-exactly}
 use Rattle.uslp_form.proofs.Claims as claims
 use Rattle.uslp_form.proofs.Wrong as wrong
 use Rattle.uslp_saved.proofs as saved
@@ -56,12 +58,33 @@ zeros = 0 ∷ 0 ∷ 0 ∷ 0 ∷ 0 ∷ 0 ∷ 0 ∷ 0 ∷ 0 ∷ 0 ∷ []
 
 pub save-unsorted : Allows fn-save ([], tt) (wrong.two, (at zeros, tt))
     (length-answer.Done 10, (tt, (2 ∷ 0x12 ∷ 0x34 ∷ 5 ∷ 1 ∷ 0x12 ∷ 0x33 ∷ 63 ∷ 7 ∷ 0 ∷ [], tt))) → ⊥
-unfolding saving rows insert sorted
+unfolding saving anyLacks rows insert sorted
 save-unsorted e = let z : _≡_ {A = ℕ} 0x34 0x33 = cc in omega arith
 
 pub save-idle : Allows fn-save ([], tt) (wrong.two, (at zeros, tt)) (length-answer.Done 10, (tt, (zeros, tt))) → ⊥
-unfolding saving rows insert sorted
+unfolding saving anyLacks rows insert sorted
 save-idle e = let z : _≡_ {A = ℕ} 0 2 = cc in omega arith
+
+-- what a program leaves that saves, as the definition sees it
+abbrev pub saverOf : Program fn-save → ChannelRecord → List ℕ → Written ℕ
+saverOf f r b = let x = f ([], tt) (r, (at b, tt)) in leaving (paperLength (x .0)) (x .1 .1 .0)
+
+-- any program that keeps the promise of `save`
+module _ (f : Program fn-save) (keeps : Keeps fn-save f) (r : ChannelRecord) (b : List ℕ) where
+  -- it answers 19 exactly if an open channel is expedited, whatever room there is, and then writes nothing
+  lacks-answer : Expedited r → saverOf f r b ≡ leaving (refused 19 []) b
+  lacks-answer x = keeps ([], tt) (r, (at b, tt)) ∙ claims.saving-lacks one r b (lacks-exactly r .1 x)
+
+  pub lacks-only : {vs t : List ℕ} → saverOf f r b ≡ leaving (refused 19 vs) t → Expedited r
+  lacks-only {vs} {t} e = claims.lacks-of r b (sym (keeps ([], tt) (r, (at b, tt))) ∙ e)
+
+  -- saving form 1 and dropping the flag
+  pub no-flag-dropped : Expedited r → {n : ℕ} {t : List ℕ} → saverOf f r b ≡ leaving (done n) t → ⊥
+  no-flag-dropped x e = not-done (sym (leaving-one (sym e ∙ lacks-answer x) .0))
+
+  -- a 19 that is given after 2
+  pub no-late-lack : Expedited r → {vs t : List ℕ} → saverOf f r b ≡ leaving (refused 2 vs) t → ⊥
+  no-late-lack x e = let d = leaving-one (sym e ∙ lacks-answer x) .0 in let z : _≡_ {A = ℕ} 2 19 = cc in omega arith
 
 -- what a program leaves that restores, as the definition sees it
 abbrev pub restorerOf : Program fn-restore → ChannelRecord → List ℕ → Kept (Unit {0})
@@ -99,6 +122,10 @@ module _ (f : Program fn-restore) (keeps : Keeps fn-restore f) (r : ChannelRecor
 
     pub no-far-last : (k : Channel) (w : ℕ) (t : Totals) → Has (us ++ hs) (Heard k w t) → 256 ^ w ≤ t .last → Refuses octets
     no-far-last = wrong.no-far-last one r us hs a b _ (restores octets)
+
+  -- restoring that gives an expedited channel
+  pub no-expedited : (s : List ℕ) {q : ChannelRecord} → restorerOf f r s ≡ keeping (done tt) q → Expedited q → ⊥
+  no-expedited s {q} e = wrong.none-expedited r q s (subst (Restoring one r s) e (restores s))
 
   -- restoring that keeps old channels: what it leaves of a good form is the same, whatever record it found
   pub no-old : (r′ : ChannelRecord) (s : List ℕ) (us hs : List SlotState) → GoodForm one s us hs → restorerOf f r s ≡ restorerOf f r′ s

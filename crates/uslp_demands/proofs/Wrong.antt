@@ -22,7 +22,7 @@ use Rattle.uslp_reader.specs.declared.TransferFrame.{TransferFrame}
 use Rattle.uslp_record.specs.Record.{keeping}
 use Rattle.uslp_record.specs.declared.Channel.{Channel}
 use Rattle.uslp_record.specs.declared.ChannelRecord.{ChannelRecord}
-use Rattle.uslp_hearing.specs.Hearing.{paperHear}
+use Rattle.uslp_hearing.specs.Hearing.{channelOf, paperHear}
 use Rattle.uslp_roundtrip.specs.Samples.{plain}
 use Rattle.uslp_roundtrip.specs.Laid.{WrongFecf}
 use Rattle.uslp_roundtrip.proofs.Unequal.{refused-exactly}
@@ -75,11 +75,11 @@ reader-unequal f k s oct fecf a b =
 pub writer-demand : (f : Program fn-write-to-slice) → Keeps fn-write-to-slice f → frames.Demand2Writer (writerOf f)
 writer-demand f k = subst frames.Demand2Writer (λ i c d s. sym (k ([], ([], tt)) (c, (at d, (at s, tt)))) i) writes
 
-pub hearer-demand-over : (f : Program fn-hear) → Keeps fn-hear f → Demand3Over (hearerOf f)
-hearer-demand-over f k = subst Demand3Over (λ i r s fecf. sym (k ([], tt) (r, (at s, (fecf, tt)))) i) counted-over
+pub hearer-demand-over : (f : Program fn-hear) → Keeps fn-hear f → Demand3Over channelOf (hearerOf f)
+hearer-demand-over f k = subst (Demand3Over channelOf) (λ i r s fecf. sym (k ([], tt) (r, (at s, (fecf, tt)))) i) (counted-over channelOf)
 
-pub hearer-demand : (f : Program fn-hear) → Keeps fn-hear f → Demand3 (hearerOf f)
-hearer-demand f k = over (hearerOf f) (hearer-demand-over f k)
+pub hearer-demand : (f : Program fn-hear) → Keeps fn-hear f → Demand3 channelOf (hearerOf f)
+hearer-demand f k = over channelOf (hearerOf f) (hearer-demand-over f k)
 
 -- whatever keeps the promise of the call for many frames comes to what hearing them one at a time comes to, for every FECF choice
 pub many-single : (g : Program fn-hear-many) → Keeps fn-hear-many g → (r : ChannelRecord) (s : List ℕ) (fecf : Bool) → AreOctets s
@@ -89,10 +89,10 @@ many-single g k r s fecf oct = one-at-a-time fecf s oct r _ .1 (k ([], tt) (r, (
 -- and the record that it leaves is the one that the call has in a history: so it may stand in any run
 pub many-stands : (f : Program fn-hear) → Keeps fn-hear f → (g : Program fn-hear-many) → Keeps fn-hear-many g
     → (K : Channel) (r : ChannelRecord) (s : List ℕ) (fecf : Bool)
-    → g ([], tt) (r, (at s, (fecf, tt))) .0 .next ≡ histories.called (hearerOf f) K r (hears-many s fecf) .1
+    → g ([], tt) (r, (at s, (fecf, tt))) .0 .next ≡ histories.called channelOf (hearerOf f) K r (hears-many s fecf) .1
 many-stands f k g l K r s fecf =
     ap (λ (q : KeptMany). q .next) (l ([], tt) (r, (at s, (fecf, tt)))) ∙ many-called K r s fecf
-    ∙ ap (λ (H : histories.Hearer). histories.called H K r (hears-many s fecf) .1) (λ i r s fecf. sym (k ([], tt) (r, (at s, (fecf, tt)))) i)
+    ∙ ap (λ (H : histories.Hearer). histories.called channelOf H K r (hears-many s fecf) .1) (λ i r s fecf. sym (k ([], tt) (r, (at s, (fecf, tt)))) i)
 
 -- whatever keeps the intake's promise gives the same for octets cut anyhow, and what stops it goes on to stop it
 abbrev pub intakeOf : Program fn-take-block → Call
@@ -118,8 +118,9 @@ intake-stops f l fecf s held block t n m k vs e next =
     intake-promised f l fecf t m next ∙ stop-stops fecf s held block t (sym (intake-promised f l fecf s held block) ∙ e) next
 
 -- and with whatever keeps the hearing's promise, the console knows what it lacks of octets that came in blocks
-pub in-blocks-demand : (f : Program fn-hear) → Keeps fn-hear f → (g : Program fn-take-block) → Keeps fn-take-block g → Demand3InBlocks (hearerOf f) (intakeOf g)
-in-blocks-demand f k g l = in-blocks (hearerOf f) (hearer-demand f k) (intakeOf g) (intake-promised g l)
+pub in-blocks-demand : (f : Program fn-hear) → Keeps fn-hear f → (g : Program fn-take-block) → Keeps fn-take-block g
+    → Demand3InBlocks channelOf (hearerOf f) (intakeOf g)
+in-blocks-demand f k g l = in-blocks channelOf (hearerOf f) (hearer-demand f k) (intakeOf g) (intake-promised g l)
 
 -- hearing a frame as it was read is hearing its octets
 pub frame-hearing : (f : Program fn-hear) → Keeps fn-hear f → (g : Program fn-hear-frame) → Keeps fn-hear-frame g

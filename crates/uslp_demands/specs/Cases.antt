@@ -17,6 +17,7 @@ use Rattle.uslp_reader.specs.declared.TransferFrame.{TransferFrame}
 use Rattle.uslp_record.specs.Slots.{put, emptyRecord}
 use Rattle.uslp_record.specs.declared.Change.{Change}
 use Rattle.uslp_record.specs.Judging.{firstTotals, judging}
+use Rattle.uslp_kinds.specs.declared.BypassSequenceControlFlag.the-variants.{SequenceControlledQoS}
 use Rattle.uslp_record.specs.declared.Channel.{Channel}
 use Rattle.uslp_record.specs.declared.ChannelRecord.{ChannelRecord}
 use Rattle.uslp_record.specs.declared.SlotState.the-variants.{Heard}
@@ -40,7 +41,7 @@ pub data Answer : Type 0 where
 
 -- a record in which one channel was last heard with this count
 abbrev pub channel : Channel
-channel = record { «spacecraft_id» = 0x1234; «vc_id» = 5 }
+channel = record { «spacecraft_id» = 0x1234; «vc_id» = 5; «sequence_control_flag» = SequenceControlledQoS }
 
 abbrev pub lastHeard : ℕ → ℕ → ChannelRecord
 lastHeard width last = put emptyRecord 0 (Heard channel width (firstTotals last))

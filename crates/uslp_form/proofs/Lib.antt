@@ -1,4 +1,5 @@
 pub mod Each
+pub mod Flags
 pub mod Sorted
 pub mod Restored
 pub mod Trips

@@ -18,12 +18,13 @@ use Rattle.uslp_record.specs.declared.ChannelRecord.{ChannelRecord}
 use Rattle.uslp_record.proofs.Count.{counts-le}
 use Rattle.uslp_form.specs.Entries.{Each, isOpened, isHeard}
 use Rattle.uslp_record.specs.Made.{Openable, Sound}
-use Rattle.uslp_form.specs.Form.{Form, columns, totalsRow, row, rows, section, form, GoodForm, restored}
+use Rattle.uslp_form.specs.Form.{Form, columns, lacksFlag, totalsRow, row, entryLacks, rows, section, form, GoodForm, restored}
 use Rattle.uslp_form.specs.Form.Form.{one}
 use Rattle.uslp_form.specs.Saved.{Restoring}
 use Rattle.uslp_form.specs.Saved.Restoring.{good, bad}
 use Rattle.uslp_record.proofs.Slots.{true-false}
 use Rattle.uslp_form.proofs.Each.{each-both, each-left, each-right}
+use Rattle.uslp_form.proofs.Flags.{not-expedited}
 
 -- two rows of the same widths, whole octets, that pack to the same are the same, and so is what stands behind them
 module _ (fs gs : List Field) (n : ℕ) (a : bitsIn fs ≡ 8 * n) (b : bitsIn gs ≡ 8 * n) (same : (s : List ℕ) → unpack fs s ≡ unpack gs s) (s t : List ℕ)
@@ -36,18 +37,37 @@ module _ (fs gs : List Field) (n : ℕ) (a : bitsIn fs ≡ 8 * n) (b : bitsIn gs
       sym (drop-at (pack fs) s n (length-octets (bitsIn fs / 8) (valueOf fs) ∙ (let z : bitsIn fs / 8 ≡ n = omega arith in z)))
       ∙ ap (drop n) e ∙ drop-at (pack gs) t n (length-octets (bitsIn gs / 8) (valueOf gs) ∙ (let z : bitsIn gs / 8 ≡ n = omega arith in z))
 
-opened-one : (f : Form) (k c : Channel) (v w : ℕ) (s t : List ℕ) → Fits (row f (Opened k v)) → Fits (row f (Opened c w))
+-- an entry whose numbers fit its columns, and whose flag the form does not lack: its row gives it back
+abbrev Rowed : Form → SlotState → Type 0
+Rowed f x = Fits (row f x) × (entryLacks f x ≡ false)
+
+-- the flags of channels that form 1 does not lack
+flag-one : (k c : Channel) → lacksFlag one k ≡ false → lacksFlag one c ≡ false → k .«sequence_control_flag» ≡ c .«sequence_control_flag»
+flag-one k c h g = not-expedited (k .«sequence_control_flag») h ∙ sym (not-expedited (c .«sequence_control_flag») g)
+
+opened-one : (f : Form) (k c : Channel) (v w : ℕ) (s t : List ℕ) → Rowed f (Opened k v) → Rowed f (Opened c w)
     → pack (row f (Opened k v)) ++ s ≡ pack (row f (Opened c w)) ++ t → (Opened k v ≡ Opened c w) × (s ≡ t)
 opened-one one k c v w s t h g e =
-    let q = row-one (row one (Opened k v)) (row one (Opened c w)) 4 refl refl (λ z. refl) s t e h g in
-    let x : k ≡ c = λ i. record { «spacecraft_id» = ap (named "spacecraft") q i; «vc_id» = ap (named "channel") q i } in
+    let q = row-one (row one (Opened k v)) (row one (Opened c w)) 4 refl refl (λ z. refl) s t e (h .0) (g .0) in
+    let x : k ≡ c =
+    λ i. record {
+      «spacecraft_id» = ap (named "spacecraft") q i;
+      «vc_id» = ap (named "channel") q i;
+      «sequence_control_flag» = flag-one k c (h .1) (g .1) i;
+    } in
     (ap₂ Opened x (ap (named "width") q), rest-one (row one (Opened k v)) (row one (Opened c w)) 4 refl refl (λ z. refl) s t e)
 
-heard-one : (f : Form) (k c : Channel) (v w : ℕ) (p q : Totals) (s t : List ℕ) → Fits (row f (Heard k v p)) → Fits (row f (Heard c w q))
+heard-one : (f : Form) (k c : Channel) (v w : ℕ) (p q : Totals) (s t : List ℕ) → Rowed f (Heard k v p) → Rowed f (Heard c w q)
     → pack (row f (Heard k v p)) ++ s ≡ pack (row f (Heard c w q)) ++ t → (Heard k v p ≡ Heard c w q) × (s ≡ t)
 heard-one one k c v w p q s t h g e =
-    let z = row-one (row one (Heard k v p)) (row one (Heard c w q)) 44 refl refl (λ z. refl) s t e h g in (
-      (λ i. Heard (record { «spacecraft_id» = ap (named "spacecraft") z i; «vc_id» = ap (named "channel") z i }) (ap (named "width") z i)
+    let z = row-one (row one (Heard k v p)) (row one (Heard c w q)) 44 refl refl (λ z. refl) s t e (h .0) (g .0) in
+    let x : k ≡ c =
+    λ i. record {
+      «spacecraft_id» = ap (named "spacecraft") z i;
+      «vc_id» = ap (named "channel") z i;
+      «sequence_control_flag» = flag-one k c (h .1) (g .1) i;
+    } in (
+      (λ i. Heard (x i) (ap (named "width") z i)
           (record {
             last = ap (named "last") z i;
             «handed_on» = ap (named "handed on") z i;
@@ -60,9 +80,9 @@ heard-one one k c v w p q s t h g e =
     )
 
 module _ (f : Form) where
-  -- an entry of a kind, whose numbers fit its columns
+  -- an entry of a kind, whose row gives it back
   abbrev pub Entry : (SlotState → Bool) → SlotState → Type 0
-  Entry test x = (test x ≡ true) × Fits (row f x)
+  Entry test x = (test x ≡ true) × Rowed f x
 
   -- two entries that pass the test and stand for the same octets are the same
   abbrev Reads : (SlotState → Bool) → Type 0
@@ -131,14 +151,18 @@ module _ (f : Form) where
       )
 
   -- a good form has one pair of lists
-  good-entries : (test : SlotState → Bool) (l : List SlotState) → Each (λ (x : SlotState). test x ≡ true) l → Each Sound l → Each (Entry test) l
-  good-entries test l a b = each-both (λ (x : SlotState). test x ≡ true) Sound (Entry test) (λ x e s. (e, sound-fits x s)) l a b
+  good-entries : (test : SlotState → Bool) (l : List SlotState) → Each (λ (x : SlotState). test x ≡ true) l → Each (Rowed f) l → Each (Entry test) l
+  good-entries test l a b = each-both (λ (x : SlotState). test x ≡ true) (Rowed f) (Entry test) (λ x e s. (e, s)) l a b
+
+  good-rowed : {s : List ℕ} {us hs : List SlotState} → GoodForm f s us hs → Each (Rowed f) (us ++ hs)
+  good-rowed {us} {hs} g =
+      each-both Sound (λ (x : SlotState). entryLacks f x ≡ false) (Rowed f) (λ x s e. (sound-fits x s, e)) (us ++ hs) (g .sound) (g .flags)
 
   pub good-unheard : {s : List ℕ} {us hs : List SlotState} → GoodForm f s us hs → Each (Entry isOpened) us
-  good-unheard {us} {hs} g = good-entries isOpened us (g .unheard) (each-left Sound us hs (g .sound))
+  good-unheard {us} {hs} g = good-entries isOpened us (g .unheard) (each-left (Rowed f) us hs (good-rowed g))
 
   pub good-heard : {s : List ℕ} {us hs : List SlotState} → GoodForm f s us hs → Each (Entry isHeard) hs
-  good-heard {us} {hs} g = good-entries isHeard hs (g .heard) (each-right Sound us hs (g .sound))
+  good-heard {us} {hs} g = good-entries isHeard hs (g .heard) (each-right (Rowed f) us hs (good-rowed g))
 
   pub good-one : {s : List ℕ} {us vs hs gs : List SlotState} → GoodForm f s us hs → GoodForm f s vs gs → (us ≡ vs) × (hs ≡ gs)
   good-one {us} {vs} {hs} {gs} g k = form-one us vs hs gs (good-unheard g) (good-unheard k) (good-heard g) (good-heard k) (sym (g .octets) ∙ k .octets)

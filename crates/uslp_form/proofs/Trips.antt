@@ -1,7 +1,7 @@
 -- Round trips: what a saving wrote is a good form and gives back every channel; what was restored is saved as the same octets.
 --
 use mathlib.Core.Path.{_≡_, refl, sym, _∙_, ap, ap₂}
-use mathlib.Core.Bool.{Bool, true, false, cond}
+use mathlib.Core.Bool.{Bool, true, false}
 use mathlib.Core.List.{List, _++_, map, map-append, append-assoc}
 use Prim.Native.Nat.{ℕ, _+_, _-_, _<_, _≤_}
 use native.Mathlib.Omega.{arith}
@@ -14,10 +14,11 @@ use Rattle.uslp_record.specs.declared.Slot.{Slot}
 use Rattle.uslp_record.specs.declared.ChannelRecord.{ChannelRecord}
 use Rattle.uslp_record.specs.Made.{Sound, Made}
 use Rattle.uslp_form.specs.Entries.{Each, Once, isOpened, isHeard}
-use Rattle.uslp_form.specs.Form.{Form, sorted, rank, form, formOf, GoodForm, restored}
+use Rattle.uslp_form.specs.Form.{Form, entryLacks, anyLacks, sorted, form, formOf, GoodForm, restored}
 use Rattle.uslp_record.proofs.Slots.{true-false}
-use Rattle.uslp_form.proofs.Each.{statesIn, each-append, each-from, each-map, Has, has-left, has-right, once-append, once-from}
-use Rattle.uslp_form.proofs.Sorted.{sorted-each, sorted-all, sorted-has, sorted-once, sorted-ascends, sorted-none, sorted-past, sorted-same, sorted-length, sorted-apart, open-rank, opened-open, heard-open, not-both, opened-not, heard-not}
+use Rattle.uslp_form.proofs.Each.{statesIn, each-append, each-from, each-map, each-both, Has, has-left, has-right, once-append, once-from}
+use Rattle.uslp_form.proofs.Flags.{none-lacks, lacks-none}
+use Rattle.uslp_form.proofs.Sorted.{Savable, sorted-each, sorted-all, sorted-has, sorted-once, sorted-ascends, sorted-none, sorted-past, sorted-same, sorted-length, sorted-apart, open-rank, opened-open, heard-open, not-both, opened-not, heard-not}
 use Rattle.uslp_form.proofs.Restored.{each-slots, each-closed, find-none, none-found, has-found, Found, find-has, eight-restored, each-restored, made-restored}
 
 module _ (f : Form) (r : ChannelRecord) where
@@ -34,9 +35,15 @@ module _ (f : Form) (r : ChannelRecord) where
   all-entries : (P : SlotState → Type 0) → Each P (statesIn (r .slots)) → Each P entriesOf
   all-entries P e = each-append P unheardOf heardOf (sorted-all f isOpened P (r .slots) e) (sorted-all f isHeard P (r .slots) e)
 
-  module _ (made : Made r) where
+  -- calls made it, and the form lacks no flag of its open channels
+  module _ (made : Made r) (whole : anyLacks f (r .slots) ≡ false) where
     states-sound : Each Sound (statesIn (r .slots))
     states-sound = each-from Sound (r .slots) (λ j h. made .sound j)
+
+    states-savable : Each (Savable f) (statesIn (r .slots))
+    states-savable =
+        each-both Sound (λ (x : SlotState). entryLacks f x ≡ false) (Savable f) (λ x s e. (s, e)) (statesIn (r .slots)) states-sound
+        (none-lacks f (r .slots) whole)
 
     states-once : Once (statesIn (r .slots))
     states-once = once-from (r .slots) (λ k i j a b. made .once k i j (omega (arith, made .eight)) (omega (arith, made .eight)))
@@ -52,9 +59,10 @@ module _ (f : Form) (r : ChannelRecord) where
           (each-from (λ (x : SlotState). isOpened x ≡ true → isOpened x ≡ true) (r .slots) (λ j h e. e));
       heard = sorted-each f isHeard (λ (x : SlotState). isHeard x ≡ true) (r .slots)
           (each-from (λ (x : SlotState). isHeard x ≡ true → isHeard x ≡ true) (r .slots) (λ j h e. e));
+      flags = all-entries (λ (x : SlotState). entryLacks f x ≡ false) (none-lacks f (r .slots) whole);
       sound = all-entries Sound states-sound;
-      first = sorted-ascends f isOpened (r .slots) states-once states-sound (λ x y a b. open-rank f x y (opened-open x a) (opened-open y b));
-      second = sorted-ascends f isHeard (r .slots) states-once states-sound (λ x y a b. open-rank f x y (heard-open x a) (heard-open y b));
+      first = sorted-ascends f isOpened (Savable f) (r .slots) states-once states-savable (λ x y a b. open-rank f x y (opened-open x a) (opened-open y b));
+      second = sorted-ascends f isHeard (Savable f) (r .slots) states-once states-savable (λ x y a b. open-rank f x y (heard-open x a) (heard-open y b));
       once =
           once-append unheardOf heardOf (sorted-once f isOpened (r .slots) states-once) (sorted-once f isHeard (r .slots) states-once)
           (sorted-apart f isOpened isHeard not-both (r .slots) states-once);
@@ -120,6 +128,11 @@ module _ (f : Form) (s : List ℕ) (us hs : List SlotState) (good : GoodForm f s
   -- the same octets, whatever record stood before
   pub saved-again : formOf f (restored (us ++ hs)) ≡ s
   saved-again = ap₂ (form f) unheard-again heard-again ∙ sym (good .octets)
+
+  -- the form lacks no flag of what it gives
+  pub whole-good : anyLacks f (restored (us ++ hs) .slots) ≡ false
+  whole-good =
+      lacks-none f (restored (us ++ hs) .slots) (each-restored (us ++ hs) (good .few) (λ (x : SlotState). entryLacks f x ≡ false) refl (good .flags))
 
   pub made-good : Made (restored (us ++ hs))
   made-good = made-restored (us ++ hs) (good .few) (good .sound) (good .once)

@@ -6,6 +6,7 @@ use Prim.Native.Nat.{ℕ, _^_, _<_, _≤_}
 use native.Mathlib.Omega.{arith}
 use lib.ListN.{length, replicate}
 use Rattle.uslp_kinds.specs.Outcome.{done, refused}
+use Rattle.uslp_kinds.specs.declared.BypassSequenceControlFlag.the-variants.{SequenceControlledQoS}
 use Rattle.uslp_record.specs.Slots.{stateHolds, find, slotOf}
 use Rattle.uslp_record.specs.Record.{Kept, keeping, showing}
 use Rattle.uslp_record.specs.declared.Channel.{Channel}
@@ -15,12 +16,14 @@ use Rattle.uslp_record.specs.declared.SlotState.the-variants.{Closed, Opened, H
 use Rattle.uslp_record.specs.declared.ChannelRecord.{ChannelRecord}
 use Rattle.uslp_form.specs.Entries.{Each, Once, isOpened, isHeard}
 use Rattle.uslp_record.specs.Made.{Sound}
-use Rattle.uslp_form.specs.Form.{Form, row, rows, insert, sorted, form, formOf, GoodForm, restored}
+use Rattle.uslp_form.specs.Form.{Form, anyLacks, rows, insert, sorted, form, formOf, GoodForm, restored}
 use Rattle.uslp_form.specs.Form.Form.{one}
 use Rattle.uslp_form.specs.Saved.{Restoring}
 use Rattle.uslp_form.proofs.Each.{Has, each-has, once-apart}
 use Rattle.uslp_record.proofs.Slots.{true-false}
 use Rattle.uslp_form.proofs.Rows.{Entry, form-one, good-unheard, good-heard, restores-done}
+use Rattle.uslp_form.proofs.Flags.{Expedited, lacks-exactly}
+use Rattle.uslp_form.proofs.Trips.{whole-good}
 use Rattle.uslp_form.proofs.Claims.{restoring-good, restoring-bad}
 use Rattle.uslp_form.proofs.Restored.{find-none, eight-restored, each-restored}
 use Rattle.uslp_record.proofs.Back.{keeping-one}
@@ -73,9 +76,16 @@ no-old f r q us hs s g h K none =
     ap (λ (x : ChannelRecord). showing x K) e
     ∙ sym (showing-none (restored l) K (find K (restored l .slots)) refl (omega (arith, n, eight-restored l (g .few))))
 
+-- restoring form 1 that gives an expedited channel: none that is done leaves one open
+pub none-expedited : (r q : ChannelRecord) (s : List ℕ) → Restoring one r s (keeping (done tt) q) → Expedited q → ⊥
+none-expedited r q s h x =
+    let d = restores-done one h in
+    true-false (lacks-exactly q .1 x)
+    (ap (λ (y : ChannelRecord). anyLacks one (y .slots)) (sym (d .is)) ∙ whole-good one s (d .unheard) (d .heard) (d .is-good))
+
 -- saving in slot order: two channels opened in descending order are written ascending
 abbrev craft : ℕ → ℕ → Channel
-craft s c = record { «spacecraft_id» = s; «vc_id» = c }
+craft s c = record { «spacecraft_id» = s; «vc_id» = c; «sequence_control_flag» = SequenceControlledQoS }
 
 abbrev descending : ChannelRecord
 descending = record {

@@ -1,11 +1,12 @@
 -- A saved record as octets (docs/RULES.md, section 6.6): two sections, each after a one-octet count; an entry is a row of columns.
 use mathlib.Core.Path.{_≡_}
-use mathlib.Core.Bool.{Bool, true, cond}
+use mathlib.Core.Bool.{Bool, true, false, cond, _||_}
 use mathlib.Core.List.{List, [], _∷_, _++_, map}
 use Prim.Native.Nat.{ℕ, _-_, _<_, _≤_}
-use lib.Dec.{leb}
+use lib.Dec.{eqb, leb}
 use lib.ListN.{length, replicate}
 use Rattle.uslp_octets.specs.Octets.{Field, Fits, pack, valueOf}
+use Rattle.uslp_kinds.specs.Kinds.{bypassNumber}
 use Rattle.uslp_record.specs.Slots.{slotOf, stateAt}
 use Rattle.uslp_record.specs.Made.{Sound}
 use Rattle.uslp_record.specs.declared.Channel.{Channel}
@@ -23,6 +24,10 @@ pub data Form : Type 0 where
 -- the columns that say which channel it is; both sections ascend by them, the first counting most
 abbrev pub columns : Form → Channel → List Field
 columns one k = ("spacecraft", 16, k .«spacecraft_id») ∷ ("channel", 8, k .«vc_id») ∷ []
+
+-- form 1 has no column for the bypass flag: it is for sequence-controlled channels, and lacks the flag of an expedited one
+abbrev pub lacksFlag : Form → Channel → Bool
+lacksFlag one k = eqb (bypassNumber (k .«sequence_control_flag»)) 1
 
 abbrev pub totalsRow : Totals → List Field
 totalsRow t =
@@ -44,6 +49,16 @@ module _ (f : Form) where
   rank Closed = 0
   rank (Opened k width) = valueOf (columns f k)
   rank (Heard k width totals) = valueOf (columns f k)
+
+  -- an entry, and an open channel of a record, whose flag the form lacks
+  abbrev pub entryLacks : SlotState → Bool
+  entryLacks Closed = false
+  entryLacks (Opened k width) = lacksFlag f k
+  entryLacks (Heard k width totals) = lacksFlag f k
+
+  unfoldable pub anyLacks : List Slot → Bool
+  anyLacks [] = false
+  anyLacks (x ∷ l) = entryLacks (x .state) || anyLacks l
 
   unfoldable pub rows : List SlotState → List ℕ
   rows [] = []
@@ -82,6 +97,7 @@ module _ (f : Form) where
     pub octets : s ≡ form us hs
     pub unheard : Each (λ (x : SlotState). isOpened x ≡ true) us
     pub heard : Each (λ (x : SlotState). isHeard x ≡ true) hs
+    pub flags : Each (λ (x : SlotState). entryLacks x ≡ false) (us ++ hs)
     pub sound : Each Sound (us ++ hs)
     pub first : Ascending us
     pub second : Ascending hs

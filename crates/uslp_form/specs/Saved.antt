@@ -7,14 +7,18 @@ use Rattle.uslp_kinds.specs.Outcome.{done, refused, firstOf, Written, written}
 use Rattle.uslp_record.specs.Record.{Kept, keeping}
 use Rattle.uslp_record.specs.declared.SlotState.{SlotState}
 use Rattle.uslp_record.specs.declared.ChannelRecord.{ChannelRecord}
-use Rattle.uslp_form.specs.Form.{Form, formOf, GoodForm, restored}
+use Rattle.uslp_form.specs.Form.{Form, anyLacks, formOf, GoodForm, restored}
 
 module _ (f : Form) where
-  -- saving: 2; the octets behind the form stay
+  -- saving: 19 where the form lacks the flag of an open channel, then 2; the octets behind the form stay
   unfoldable pub saving : ChannelRecord → List ℕ → Written ℕ
   saving r b =
       written
-      (firstOf ((ltb (length b) (length (formOf f r)), refused 2 (length b ∷ length (formOf f r) ∷ [])) ∷ []) (done (length (formOf f r))))
+      (firstOf
+      ((anyLacks f (r .slots), refused 19 [])
+      ∷ (ltb (length b) (length (formOf f r)), refused 2 (length b ∷ length (formOf f r) ∷ []))
+      ∷ [])
+      (done (length (formOf f r))))
       (formOf f r ++ drop (length (formOf f r)) b)
       b
 

@@ -22,7 +22,7 @@ use Rattle.uslp_record.specs.declared.Arrival.{Arrival}
 use Rattle.uslp_record.proofs.Hears.{judging-field}
 use Rattle.uslp_record.proofs.Ways.{Judged, changeFor, judging-ways}
 use Rattle.uslp_record.proofs.Keeps.{left, made-judged}
-use Rattle.uslp_hearing.specs.Hearing.{channelOf, frameArrival, withFrame, judgedFrame, frameJudging, frameHearing}
+use Rattle.uslp_hearing.specs.Hearing.{Naming, channelOf, frameArrival, withFrame, judgedBy, judgedFrame, frameJudging, hearingBy}
 use Rattle.uslp_hearing.specs.declared.FrameArrival.{FrameArrival}
 
 module _ (x : TransferFrame) where
@@ -36,18 +36,23 @@ module _ (x : TransferFrame) where
   abbrev pub count : ℕ
   count = x .«primary_header» .«vc_frame_count»
 
-pub frame-ways : (P : Kept FrameArrival → Type 0) (r : ChannelRecord) (s : List ℕ) (fecf : Bool)
-    → ((j : ℕ) (vs : List ℕ) → P (keeping (refused j vs) r))
-    → ((x : TransferFrame) → frameReading s fecf ≡ done x → Judged r (channel x) (width x) (count x)
-    → P (keeping (done (frameArrival x (arrivalAt (stateAt r (find (channel x) (r .slots))) (count x))))
-    (changed r (changeFor r (channel x) (width x) (count x)))))
-    → P (frameHearing r s fecf)
-frame-ways P r s fecf f g = go (frameReading s fecf) refl
-  where
-    go : (o : Outcome TransferFrame) → frameReading s fecf ≡ o → P (taken r (andThen o (judgedFrame r)))
-    go (done x) e =
-        judging-ways r (channel x) (λ (o : Outcome (Arrival × Change)). P (taken r (withFrame x o))) (width x) (count x) f (g x e)
-    go (refused k vs) e = f k vs
+module _ (name : Naming) where
+  -- the channel that a frame is counted for
+  abbrev pub named : TransferFrame → Channel
+  named x = name (x .«primary_header»)
+
+  pub frame-ways : (P : Kept FrameArrival → Type 0) (r : ChannelRecord) (s : List ℕ) (fecf : Bool)
+      → ((j : ℕ) (vs : List ℕ) → P (keeping (refused j vs) r))
+      → ((x : TransferFrame) → frameReading s fecf ≡ done x → Judged r (named x) (width x) (count x)
+      → P (keeping (done (frameArrival x (arrivalAt (stateAt r (find (named x) (r .slots))) (count x))))
+      (changed r (changeFor r (named x) (width x) (count x)))))
+      → P (hearingBy name r s fecf)
+  frame-ways P r s fecf f g = go (frameReading s fecf) refl
+    where
+      go : (o : Outcome TransferFrame) → frameReading s fecf ≡ o → P (taken r (andThen o (judgedBy name r)))
+      go (done x) e =
+          judging-ways r (named x) (λ (o : Outcome (Arrival × Change)). P (taken r (withFrame x o))) (width x) (count x) f (g x e)
+      go (refused k vs) e = f k vs
 
 -- a frame that was read has a width of at most 7, and a count that its width has
 pub read-narrow : (s : List ℕ) (fecf : Bool) (x : TransferFrame) → frameReading s fecf ≡ done x → width x ≤ 7
@@ -66,9 +71,9 @@ hearing-field r s fecf {vs} = go (frameReading s fecf) refl
     go (refused k us) e h = let a : k ≡ 10 = cc in let b : us ≡ vs = cc in cc
 
 -- hearing octets keeps what holds of records that calls made
-pub made-hearing : (r : ChannelRecord) → Made r → (s : List ℕ) (fecf : Bool) → AreOctets s → Made (left (frameHearing r s fecf))
-made-hearing r made s fecf oct =
-    frame-ways (λ (q : Kept FrameArrival). Made (left q)) r s fecf (λ j vs. made)
+pub made-hearing : (name : Naming) (r : ChannelRecord) → Made r → (s : List ℕ) (fecf : Bool) → AreOctets s → Made (left (hearingBy name r s fecf))
+made-hearing name r made s fecf oct =
+    frame-ways name (λ (q : Kept FrameArrival). Made (left q)) r s fecf (λ j vs. made)
     (λ x e d.
-    made-judged r made (channel x) (width x) (count x)
+    made-judged r made (named name x) (width x) (count x)
     (count-in (x .«primary_header») (read-fitting s (x .«primary_header») oct (read-done s fecf x e .header) .checks-pass)) d)

@@ -29,9 +29,14 @@ abbrev pub paperJudge : JudgeAnswer → Outcome (FrameArrival × Change)
 paperJudge (judge-answer.Done arrival change) = done (arrival, change)
 paperJudge (judge-answer.Refused r) = refusal r
 
--- a channel is a spacecraft id with a channel number
-abbrev pub channelOf : PrimaryHeader → Channel
-channelOf h = record { «spacecraft_id» = h .«spacecraft_id»; «vc_id» = h .«vc_id» }
+-- how a frame names the channel that it is counted for
+abbrev pub Naming : Type 0
+Naming = PrimaryHeader → Channel
+
+-- here: a spacecraft id with a channel number and the bypass flag
+abbrev pub channelOf : Naming
+channelOf h =
+    record { «spacecraft_id» = h .«spacecraft_id»; «vc_id» = h .«vc_id»; «sequence_control_flag» = h .«sequence_control_flag» }
 
 -- only NEW brings the frame along
 abbrev pub frameArrival : TransferFrame → Arrival → FrameArrival
@@ -43,19 +48,29 @@ abbrev pub withFrame : TransferFrame → Outcome (Arrival × Change) → Outcome
 withFrame x (done y) = done (frameArrival x (y .0), y .1)
 withFrame x (refused k vs) = refused k vs
 
--- a frame that was read is counted for its channel: 13, 14, 17
+module _ (name : Naming) where
+  -- a frame that was read is counted for its channel: 13, 14, 17
+  abbrev pub judgedBy : ChannelRecord → TransferFrame → Outcome (FrameArrival × Change)
+  judgedBy r x =
+      withFrame x
+      (judging r (name (x .«primary_header»)) (x .«primary_header» .«vc_frame_count_len») (x .«primary_header» .«vc_frame_count»))
+
+  -- judging octets: any reader's refusal is the answer
+  abbrev pub judgingBy : ChannelRecord → List ℕ → Bool → Outcome (FrameArrival × Change)
+  judgingBy r s fecf = andThen (frameReading s fecf) (judgedBy r)
+
+  -- hearing them takes the judgement over
+  abbrev pub hearingBy : ChannelRecord → List ℕ → Bool → Kept FrameArrival
+  hearingBy r s fecf = taken r (judgingBy r s fecf)
+
 abbrev pub judgedFrame : ChannelRecord → TransferFrame → Outcome (FrameArrival × Change)
-judgedFrame r x =
-    withFrame x
-    (judging r (channelOf (x .«primary_header»)) (x .«primary_header» .«vc_frame_count_len») (x .«primary_header» .«vc_frame_count»))
+judgedFrame = judgedBy channelOf
 
--- judging octets: any reader's refusal is the answer
 abbrev pub frameJudging : ChannelRecord → List ℕ → Bool → Outcome (FrameArrival × Change)
-frameJudging r s fecf = andThen (frameReading s fecf) (judgedFrame r)
+frameJudging = judgingBy channelOf
 
--- hearing them takes the judgement over
 abbrev pub frameHearing : ChannelRecord → List ℕ → Bool → Kept FrameArrival
-frameHearing r s fecf = taken r (frameJudging r s fecf)
+frameHearing = hearingBy channelOf
 
 -- what an answer hands on of the octets
 abbrev pub handedOn : Outcome FrameArrival → List ℕ → List ℕ

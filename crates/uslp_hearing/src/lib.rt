@@ -83,9 +83,11 @@ pub fn handed_on(answer: HearAnswer, buf: &[u8]) -> &[u8]
 pub fn channel_of(header: PrimaryHeader) -> Channel
     ensures { λ r. ⌜ r ≡ channelOf header ⌝ }
 {
+    let sequence_control_flag = header.sequence_control_flag;
     Channel {
         spacecraft_id: header.spacecraft_id,
         vc_id: header.vc_id,
+        sequence_control_flag,
     }
 }
 

@@ -9,7 +9,7 @@ use Rattle.uslp_kinds.specs.Kinds.{ruleOf}
 use Rattle.uslp_kinds.specs.Answers.{refusalNumber, carried, paperDone, paperLength, paperProtocol}
 use Rattle.uslp_kinds.proofs.Cases.{rule-back}
 use Rattle.uslp_kinds.specs.declared.Refusal.{Refusal}
-use Rattle.uslp_kinds.specs.declared.Refusal.the-variants.{ShortSource, ShortTarget, Truncated, BadVersion, BadProtocol, BadChecksum, FrameTooShort, BadCount, BadPointer, BadField, OcfMissing, TooLong, NotOpen, OtherWidth, AlreadyOpen, TableFull, TotalFull, BadForm}
+use Rattle.uslp_kinds.specs.declared.Refusal.the-variants.{ShortSource, ShortTarget, Truncated, BadVersion, BadProtocol, BadChecksum, FrameTooShort, BadCount, BadPointer, BadField, OcfMissing, TooLong, NotOpen, OtherWidth, AlreadyOpen, TableFull, TotalFull, BadForm, LacksFlag}
 use Rattle.uslp_kinds.specs.declared.DoneAnswer.{DoneAnswer}
 use Rattle.uslp_kinds.specs.declared.DoneAnswer.the-variants as done-answer
 use Rattle.uslp_kinds.specs.declared.LengthAnswer.{LengthAnswer}
@@ -21,7 +21,7 @@ use Rattle.uslp_kinds.specs.declared.ProtocolIdAnswer.the-variants as pr
 abbrev bare : List (ℕ × Refusal)
 bare =
     (3, Truncated) ∷ (10, BadField) ∷ (11, OcfMissing) ∷ (12, TooLong) ∷ (13, NotOpen) ∷ (15, AlreadyOpen) ∷ (16, TableFull) ∷ (17, TotalFull)
-    ∷ (18, BadForm) ∷ []
+    ∷ (18, BadForm) ∷ (19, LacksFlag) ∷ []
 
 abbrev single : ℕ → List (ℕ × Refusal)
 single a = (4, BadVersion a) ∷ (5, BadProtocol a) ∷ (9, BadPointer (ruleOf a)) ∷ []
@@ -59,6 +59,7 @@ refusal-back AlreadyOpen = refl
 refusal-back TableFull = refl
 refusal-back TotalFull = refl
 refusal-back BadForm = refl
+refusal-back LacksFlag = refl
 
 -- the way back for an answer with the two constructors `Done` and `Refused`
 abbrev pub back : {A E : Type 0} → (A → E) → (Refusal → E) → Outcome A → E

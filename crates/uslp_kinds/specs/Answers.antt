@@ -8,7 +8,7 @@ use Rattle.uslp_kinds.specs.Outcome.{Outcome, done, refused}
 use Rattle.uslp_kinds.specs.Kinds.{ruleNumber}
 use Rattle.uslp_kinds.specs.declared.UslpProtocolId.{UslpProtocolId}
 use Rattle.uslp_kinds.specs.declared.Refusal.{Refusal}
-use Rattle.uslp_kinds.specs.declared.Refusal.the-variants.{ShortSource, ShortTarget, Truncated, BadVersion, BadProtocol, BadChecksum, FrameTooShort, BadCount, BadPointer, BadField, OcfMissing, TooLong, NotOpen, OtherWidth, AlreadyOpen, TableFull, TotalFull, BadForm}
+use Rattle.uslp_kinds.specs.declared.Refusal.the-variants.{ShortSource, ShortTarget, Truncated, BadVersion, BadProtocol, BadChecksum, FrameTooShort, BadCount, BadPointer, BadField, OcfMissing, TooLong, NotOpen, OtherWidth, AlreadyOpen, TableFull, TotalFull, BadForm, LacksFlag}
 use Rattle.uslp_kinds.specs.declared.DoneAnswer.{DoneAnswer}
 use Rattle.uslp_kinds.specs.declared.DoneAnswer.the-variants as done-answer
 use Rattle.uslp_kinds.specs.declared.LengthAnswer.{LengthAnswer}
@@ -36,6 +36,7 @@ refusalNumber AlreadyOpen = 15
 refusalNumber TableFull = 16
 refusalNumber TotalFull = 17
 refusalNumber BadForm = 18
+refusalNumber LacksFlag = 19
 
 abbrev pub carried : Refusal → List ℕ
 carried (ShortSource found expected) = found ∷ expected ∷ []
@@ -56,6 +57,7 @@ carried AlreadyOpen = []
 carried TableFull = []
 carried TotalFull = []
 carried BadForm = []
+carried LacksFlag = []
 
 -- a refusal as the outcome of a call for any result
 abbrev pub refusal : {A : Type 0} → Refusal → Outcome A

@@ -83,6 +83,7 @@ pub enum Refusal {
     TableFull,
     TotalFull,
     BadForm,
+    LacksFlag,
 }
 
 // For a call that only leaves something changed.
@@ -141,6 +142,7 @@ impl Refusal {
             Refusal::TableFull => 16,
             Refusal::TotalFull => 17,
             Refusal::BadForm => 18,
+            Refusal::LacksFlag => 19,
         }
     }
 

@@ -15,7 +15,7 @@ use Rattle.uslp_record.specs.Record.{Kept, keeping}
 use Rattle.uslp_record.specs.Made.{Made}
 use Rattle.uslp_record.specs.declared.ChannelRecord.{ChannelRecord}
 use Rattle.uslp_record.proofs.Keeps.{left}
-use Rattle.uslp_hearing.specs.Hearing.{frameHearing}
+use Rattle.uslp_hearing.specs.Hearing.{channelOf, frameHearing}
 use Rattle.uslp_hearing.specs.declared.FrameArrival.{FrameArrival}
 use Rattle.uslp_hearing.proofs.Ways.{made-hearing}
 use Rattle.uslp_many.specs.Many.{noFrames, counting, hearings, manyHearing}
@@ -38,7 +38,7 @@ module _ (fecf : Bool) where
           let n = lenFrame (x .«primary_header») in
           let q = frameHearing r (take n s) fecf in
           ih (drop n s) (are-drop n s oct) (counting t q .0) (counting t q .1)
-          (subst Made (left-counted t q) (made-hearing r made (take n s) fecf (are-take n s oct)))
+          (subst Made (left-counted t q) (made-hearing channelOf r made (take n s) fecf (are-take n s oct)))
 
   pub made-many : (r : ChannelRecord) → Made r → (s : List ℕ) → AreOctets s → Made (manyHearing r s fecf .next)
   unfolding manyHearing

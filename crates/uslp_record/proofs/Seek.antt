@@ -9,6 +9,7 @@ use lib.ListN.{length, drop, getD, length-map, drop-of-length-le}
 use lib.Seq.{drop-cons, set-out}
 use borrow.Author.Tests.{eq-eqb, ne-eqb}
 use lib.Dec.{eqb}
+use Rattle.uslp_kinds.specs.Kinds.{bypassNumber}
 use Rattle.uslp_record.proofs.Slot as slot-type
 use Rattle.uslp_record.specs.Slots.{sameChannel, holds, isClosed, find, vacant, slotOf, put}
 use Rattle.uslp_record.specs.declared.Channel.{Channel}
@@ -53,8 +54,12 @@ module _ (a b : Channel) where
   pub same-not : (a .«spacecraft_id» ≡ b .«spacecraft_id» → ⊥) → false ≡ sameChannel a b
   same-not h = simp (ne-eqb (a .«spacecraft_id») (b .«spacecraft_id») h)
 
-  pub same-craft : a .«spacecraft_id» ≡ b .«spacecraft_id» → eqb (a .«vc_id») (b .«vc_id») ≡ sameChannel a b
-  same-craft h = simp (eq-eqb (a .«spacecraft_id») (b .«spacecraft_id») h)
+  module _ (h : a .«spacecraft_id» ≡ b .«spacecraft_id») where
+    pub same-craft : (a .«vc_id» ≡ b .«vc_id» → ⊥) → false ≡ sameChannel a b
+    same-craft g = simp (eq-eqb (a .«spacecraft_id») (b .«spacecraft_id») h, ne-eqb (a .«vc_id») (b .«vc_id») g)
+
+    pub same-flag : a .«vc_id» ≡ b .«vc_id» → eqb (bypassNumber (a .«sequence_control_flag»)) (bypassNumber (b .«sequence_control_flag»)) ≡ sameChannel a b
+    same-flag g = simp (eq-eqb (a .«spacecraft_id») (b .«spacecraft_id») h, eq-eqb (a .«vc_id») (b .«vc_id») g)
 
 -- a slot past the end is none of the eight
 pub put-past : (r : ChannelRecord) (i : ℕ) (t : SlotState) → length (r .slots) ≡ 8 → 8 ≤ i → r ≡ put r i t

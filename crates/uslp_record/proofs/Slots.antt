@@ -1,5 +1,5 @@
 -- Laws of the eight slots: which channel a slot holds, what a search finds, and what a slot replaced changes of it.
-use mathlib.Core.Path.{_≡_, refl, _∙_, ap}
+use mathlib.Core.Path.{_≡_, refl, sym, _∙_, ap}
 use mathlib.Core.Bool.{Bool, true, false, cond, _&&_}
 use mathlib.Core.List.{List, [], _∷_}
 use Prim.Native.Nat.{ℕ, zero, suc, _<_, _≤_}
@@ -8,6 +8,9 @@ use borrow.Author.Tests.{eq-eqb, eqb-true}
 use lib.Dec.{eqb}
 use lib.ListN.{length, getD, set}
 use lib.Seq.{getD-set-same, getD-set-other}
+use Rattle.uslp_kinds.specs.Kinds.{bypassNumber, bypassOf}
+use Rattle.uslp_kinds.specs.declared.BypassSequenceControlFlag.{BypassSequenceControlFlag}
+use Rattle.uslp_kinds.proofs.Cases.{bypass-back}
 use Rattle.uslp_record.specs.Slots.{sameChannel, stateHolds, stateClosed, slotOf, stateAt, put}
 use Rattle.uslp_record.specs.declared.Channel.{Channel}
 use Rattle.uslp_record.specs.declared.SlotState.{SlotState}
@@ -20,16 +23,30 @@ pub true-false : {b : Bool} → b ≡ true → b ≡ false → ⊥
 true-false e f = let z : _≡_ {A = ℕ} 0 1 = cc in omega arith
 
 pub same-self : (k : Channel) → sameChannel k k ≡ true
-same-self k = simp (eq-eqb (k .«spacecraft_id») (k .«spacecraft_id») refl, eq-eqb (k .«vc_id») (k .«vc_id») refl)
+same-self k =
+    simp (
+      eq-eqb (k .«spacecraft_id») (k .«spacecraft_id») refl,
+      eq-eqb (k .«vc_id») (k .«vc_id») refl,
+      eq-eqb (bypassNumber (k .«sequence_control_flag»)) (bypassNumber (k .«sequence_control_flag»)) refl,
+    )
+
+-- the flags with one number are one
+flag-one : (x y : BypassSequenceControlFlag) → bypassNumber x ≡ bypassNumber y → x ≡ y
+flag-one x y e = sym (bypass-back x) ∙ ap bypassOf e ∙ bypass-back y
 
 pub same-one : (a b : Channel) → sameChannel a b ≡ true → a ≡ b
-same-one a b = go (eqb (a .«spacecraft_id») (b .«spacecraft_id»)) (eqb (a .«vc_id») (b .«vc_id»)) refl refl
+same-one a b = go (eqb (a .«spacecraft_id») (b .«spacecraft_id»)) (eqb (a .«vc_id») (b .«vc_id»)) _ refl refl refl
   where
-    go : (x y : Bool) → eqb (a .«spacecraft_id») (b .«spacecraft_id») ≡ x → eqb (a .«vc_id») (b .«vc_id») ≡ y → (x && y) ≡ true → a ≡ b
-    go true true e f h = λ i. record
-        { «spacecraft_id» = eqb-true (a .«spacecraft_id») (b .«spacecraft_id») e i; «vc_id» = eqb-true (a .«vc_id») (b .«vc_id») f i }
-    go true false e f h = absurd (true-false h refl)
-    go false y e f h = absurd (true-false h refl)
+    go : (x y z : Bool) → eqb (a .«spacecraft_id») (b .«spacecraft_id») ≡ x → eqb (a .«vc_id») (b .«vc_id») ≡ y
+        → eqb (bypassNumber (a .«sequence_control_flag»)) (bypassNumber (b .«sequence_control_flag»)) ≡ z → (x && y && z) ≡ true → a ≡ b
+    go true true true e f g h = λ i. record {
+      «spacecraft_id» = eqb-true (a .«spacecraft_id») (b .«spacecraft_id») e i;
+      «vc_id» = eqb-true (a .«vc_id») (b .«vc_id») f i;
+      «sequence_control_flag» = flag-one (a .«sequence_control_flag») (b .«sequence_control_flag») (eqb-true _ _ g) i;
+    }
+    go true true false e f g h = absurd (true-false h refl)
+    go true false z e f g h = absurd (true-false h refl)
+    go false y z e f g h = absurd (true-false h refl)
 
 -- a slot holds one channel only, and a closed one none
 pub holds-other : (k K : Channel) (t : SlotState) → sameChannel k K ≡ false → stateHolds k t ≡ true → stateHolds K t ≡ false

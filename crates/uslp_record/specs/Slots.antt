@@ -4,6 +4,7 @@ use mathlib.Core.List.{List, [], _∷_}
 use Prim.Native.Nat.{ℕ, suc}
 use lib.Dec.{eqb}
 use lib.ListN.{getD, set, replicate}
+use Rattle.uslp_kinds.specs.Kinds.{bypassNumber}
 use Rattle.uslp_record.specs.declared.Channel.{Channel}
 use Rattle.uslp_record.specs.declared.SlotState.{SlotState}
 use Rattle.uslp_record.specs.declared.SlotState.the-variants.{Closed, Opened, Heard}
@@ -11,9 +12,11 @@ use Rattle.uslp_record.specs.declared.Slot.{Slot}
 use Rattle.uslp_record.specs.declared.ChannelRecord.{ChannelRecord}
 use Rattle.uslp_record.specs.declared.Change.{Change}
 
--- a channel is a spacecraft id with a channel number
+-- a channel is a spacecraft id with a channel number and the bypass flag
 abbrev pub sameChannel : Channel → Channel → Bool
-sameChannel a b = eqb (a .«spacecraft_id») (b .«spacecraft_id») && eqb (a .«vc_id») (b .«vc_id»)
+sameChannel a b =
+    eqb (a .«spacecraft_id») (b .«spacecraft_id») && eqb (a .«vc_id») (b .«vc_id»)
+    && eqb (bypassNumber (a .«sequence_control_flag»)) (bypassNumber (b .«sequence_control_flag»))
 
 abbrev pub stateHolds : Channel → SlotState → Bool
 stateHolds k Closed = false

@@ -1,4 +1,5 @@
 // The channel record on numbers: eight slots by value, and what each call makes of them.
+use uslp_kinds::BypassSequenceControlFlag;
 use uslp_kinds::DoneAnswer;
 use uslp_kinds::MAX_COUNT_LEN;
 use uslp_kinds::MAX_VC_ID;
@@ -16,10 +17,11 @@ pub const SLOTS: usize = 8;
 // The largest total of a channel.
 pub const MOST: u64 = 0x0FFF_FFFF_FFFF_FFFF;
 
-// A spacecraft id with a channel number.
+// A spacecraft id with a channel number and the bypass flag: sequence-controlled and expedited frames are numbered apart.
 pub struct Channel {
     pub spacecraft_id: u16,
     pub vc_id: u8,
+    pub sequence_control_flag: BypassSequenceControlFlag,
 }
 
 // What a heard channel has counted; last is the count of its furthest frame.
@@ -203,7 +205,12 @@ pub fn same_channel(a: Channel, b: Channel) -> bool
     if a.spacecraft_id != b.spacecraft_id {
         return false;
     }
-    a.vc_id == b.vc_id
+    if a.vc_id != b.vc_id {
+        return false;
+    }
+    let flag = a.sequence_control_flag;
+    let other = b.sequence_control_flag;
+    flag.number() == other.number()
 }
 
 // The first slot that holds the channel, or how many there are.

@@ -1,6 +1,6 @@
 -- Octets have one list of entries, and whether they are a good form can be told.
 use mathlib.Core.Path.{_≡_, refl, sym, _∙_, ap, ap₂}
-use mathlib.Core.Bool.{Bool, true, false}
+use mathlib.Core.Bool.{Bool}
 use mathlib.Core.List.{List, [], _∷_, _++_, append-nil, append-assoc}
 use Prim.Native.Nat.{ℕ, zero, suc, _+_, _*_, _≤_}
 use native.Mathlib.Omega.{arith}
@@ -8,10 +8,9 @@ use lib.ListN.{length, take, drop, getD, length-drop, length-append, take-append
 use native.Mathlib.Nat.{add-zero}
 use native.Mathlib.Numerals.{add-one}
 use lib.Seq.{drop-at, drop-drop, take-add, getD-drop, take-all, drop-cons}
-use Rattle.uslp_octets.specs.Octets.{AreOctets, octets, pack, split, unpack, word}
+use Rattle.uslp_octets.specs.Octets.{AreOctets, octets, pack, word}
 use Rattle.uslp_octets.proofs.Laws.{unpack-pack, pack-unpack, split-fits, are-drop}
 use Rattle.uslp_record.specs.declared.Channel.{Channel}
-use Rattle.uslp_record.specs.declared.Totals.{Totals}
 use Rattle.uslp_record.specs.declared.SlotState.{SlotState}
 use Rattle.uslp_record.specs.declared.SlotState.the-variants.{Closed, Opened, Heard}
 use Rattle.uslp_form.specs.Entries.{Each, isOpened, isHeard}
@@ -19,6 +18,7 @@ use Rattle.uslp_form.specs.Form.{Form, row, rows, section, form, GoodForm}
 use Rattle.uslp_form.specs.Form.Form.{one}
 use Rattle.uslp_saved.specs.Reading.{noChannel, noTotals, openedBy, heardBy, unheardLong, heardLong, unheardIn, heardIn, entriesIn, firstCount, second, secondCount, formLong, unheardOfOctets, heardOfOctets, entriesOfOctets}
 use Rattle.uslp_record.proofs.Slots.{true-false}
+use Rattle.uslp_form.proofs.Flags.{sequence-one}
 use Rattle.uslp_form.proofs.Rows.{Entry, good-unheard, good-heard}
 
 -- what reads entries of a kind: it gives back what a row was made of, and what it reads makes the octets again
@@ -30,7 +30,8 @@ pub record Reader (f : Form) (test : SlotState → Bool) (read : List ℕ → Sl
 
 unheard-reads : (f : Form) (x : SlotState) → Entry f isOpened x → (t : List ℕ) → unheardIn f (pack (row f x) ++ t) ≡ x
 unheard-reads f Closed e t = absurd (true-false (e .0) refl)
-unheard-reads one (Opened k w) e t = ap (openedBy one) (unpack-pack (row one (Opened k w)) 4 refl t (e .1))
+unheard-reads one (Opened k w) e t =
+    ap (openedBy one) (unpack-pack (row one (Opened k w)) 4 refl t (e .1 .0)) ∙ ap (λ (c : Channel). Opened c w) (sequence-one k (e .1 .1))
 unheard-reads f (Heard k w t) e s = absurd (true-false (e .0) refl)
 
 unheard-size : (f : Form) (x : SlotState) → Entry f isOpened x → length (pack (row f x)) ≡ unheardLong f
@@ -42,7 +43,7 @@ unheard-whole : (f : Form) (s : List ℕ) → AreOctets s → unheardLong f ≤ 
 unheard-whole one s oct h = pack-unpack (row one (Opened noChannel 0)) 4 refl s oct h
 
 unheard-entry : (f : Form) (s : List ℕ) → Entry f isOpened (unheardIn f s)
-unheard-entry one s = (refl, split-fits (row one (Opened noChannel 0)) (word 0 4 s))
+unheard-entry one s = (refl, (split-fits (row one (Opened noChannel 0)) (word 0 4 s), refl))
 
 pub unheard-reader : (f : Form) → Reader f isOpened (unheardIn f) (unheardLong f)
 unheard-reader f = record { reads = unheard-reads f; size = unheard-size f; whole = unheard-whole f; entry = unheard-entry f }
@@ -50,7 +51,8 @@ unheard-reader f = record { reads = unheard-reads f; size = unheard-size f; whol
 heard-reads : (f : Form) (x : SlotState) → Entry f isHeard x → (t : List ℕ) → heardIn f (pack (row f x) ++ t) ≡ x
 heard-reads f Closed e t = absurd (true-false (e .0) refl)
 heard-reads f (Opened k w) e t = absurd (true-false (e .0) refl)
-heard-reads one (Heard k w c) e t = ap (heardBy one) (unpack-pack (row one (Heard k w c)) 44 refl t (e .1))
+heard-reads one (Heard k w c) e t =
+    ap (heardBy one) (unpack-pack (row one (Heard k w c)) 44 refl t (e .1 .0)) ∙ ap (λ (d : Channel). Heard d w c) (sequence-one k (e .1 .1))
 
 heard-size : (f : Form) (x : SlotState) → Entry f isHeard x → length (pack (row f x)) ≡ heardLong f
 heard-size f Closed e = absurd (true-false (e .0) refl)
@@ -61,7 +63,7 @@ heard-whole : (f : Form) (s : List ℕ) → AreOctets s → heardLong f ≤ leng
 heard-whole one s oct h = pack-unpack (row one (Heard noChannel 0 noTotals)) 44 refl s oct h
 
 heard-entry : (f : Form) (s : List ℕ) → Entry f isHeard (heardIn f s)
-heard-entry one s = (refl, split-fits (row one (Heard noChannel 0 noTotals)) (word 0 44 s))
+heard-entry one s = (refl, (split-fits (row one (Heard noChannel 0 noTotals)) (word 0 44 s), refl))
 
 pub heard-reader : (f : Form) → Reader f isHeard (heardIn f) (heardLong f)
 heard-reader f = record { reads = heard-reads f; size = heard-size f; whole = heard-whole f; entry = heard-entry f }

@@ -9,6 +9,7 @@ use lib.ListN.{getD, drop}
 use lib.Seq.{drop-drop}
 use Rattle.uslp_octets.specs.Octets.{AreOctets, Field, bitsIn, unpack, word}
 use Rattle.uslp_octets.proofs.Laws.{field-eq, unpack-cons, are-drop, word-drop}
+use Rattle.uslp_kinds.specs.declared.BypassSequenceControlFlag.the-variants.{SequenceControlledQoS}
 use Rattle.uslp_record.specs.declared.Channel.{Channel}
 use Rattle.uslp_record.specs.declared.SlotState.the-variants.{Opened, Heard}
 use Rattle.uslp_form.specs.Form.{totalsRow}
@@ -35,10 +36,10 @@ module _ (s : List ℕ) (oct : AreOctets s) (at : ℕ) where
   octet j = omega (arith, ap (λ (n : ℕ). getD s n 0) (add-zero (at + j)))
 
   pub channel-at : (x : ℕ) → x ≡ getD s at 0 * 256 + getD s (at + 1) 0
-      → record { «spacecraft_id» = x; «vc_id» = getD s (at + 2) 0 } ≡ channelAt one at s
+      → record { «spacecraft_id» = x; «vc_id» = getD s (at + 2) 0; «sequence_control_flag» = SequenceControlledQoS } ≡ channelAt one at s
   channel-at x e =
       let craft : x ≡ word at 2 s = omega (arith, e, ap (λ (n : ℕ). getD s n 0) (add-zero at)) in
-      λ i. record { «spacecraft_id» = craft i; «vc_id» = sym (octet 2) i }
+      λ i. record { «spacecraft_id» = craft i; «vc_id» = sym (octet 2) i; «sequence_control_flag» = SequenceControlledQoS }
 
   totals-fields : unpack (totalsRow noTotals) (from 4) ≡ totalsRow (record {
     last = word (at + 4) 8 s;

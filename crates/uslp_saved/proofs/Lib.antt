@@ -1,4 +1,5 @@
 pub mod Fields
+pub mod Flags
 pub mod Entries
 pub mod Filled
 pub mod Picked

@@ -1,6 +1,6 @@
 -- Whether octets are a good form is told by the entries that are read.
-use mathlib.Core.Path.{_≡_, sym, ap, subst}
-use mathlib.Core.Bool.{true}
+use mathlib.Core.Path.{_≡_, sym, subst}
+use mathlib.Core.Bool.{true, false}
 use mathlib.Core.List.{List, [], _++_}
 use Prim.Native.Nat.{ℕ, _+_}
 use native.Mathlib.Omega.{arith}
@@ -11,10 +11,10 @@ use Rattle.uslp_record.specs.Record.{keeping}
 use Rattle.uslp_record.specs.declared.SlotState.{SlotState}
 use Rattle.uslp_record.specs.declared.ChannelRecord.{ChannelRecord}
 use Rattle.uslp_form.specs.Entries.{isOpened, isHeard}
-use Rattle.uslp_form.specs.Form.{Form, GoodForm, restored}
+use Rattle.uslp_form.specs.Form.{Form, entryLacks, GoodForm, restored}
 use Rattle.uslp_form.specs.Saved.{Restoring}
 use Rattle.uslp_form.specs.Saved.Restoring.{good, bad}
-use Rattle.uslp_form.proofs.Each.{each-map}
+use Rattle.uslp_form.proofs.Each.{each-append, each-map}
 use Rattle.uslp_form.proofs.Rows.{Entry}
 use Rattle.uslp_saved.specs.Reading.{unheardLong, heardLong, unheardIn, heardIn, firstCount, second, secondCount, unheardOfOctets, heardOfOctets, entriesOfOctets, Shaped, AllAdmitted}
 use Rattle.uslp_saved.proofs.Entries.{unheard-reader, heard-reader, entries-each, unheard-long, entries-count, unheard-read, heard-read, long-read, form-read}
@@ -40,12 +40,15 @@ module _ (f : Form) (s : List ℕ) where
   told-good : AreOctets s → Shaped f s → Admits → GoodForm f s us hs
   told-good oct shape all =
       let a = admits-all f us hs (uncounted (AllAdmitted f (restored (us ++ hs))) all) in
+      let u = entries-each f isOpened (unheardIn f) (unheardLong f) (unheard-reader f) (firstCount f s) (drop 1 s) in
+      let h = entries-each f isHeard (heardIn f) (heardLong f) (heard-reader f) (secondCount f s) (drop (second f s + 1) s) in
       record {
         octets = form-read f s oct (shape .long);
-        unheard = each-map (Entry f isOpened) (λ (x : SlotState). isOpened x ≡ true) (λ x e. e .0) us
-            (entries-each f isOpened (unheardIn f) (unheardLong f) (unheard-reader f) (firstCount f s) (drop 1 s));
-        heard = each-map (Entry f isHeard) (λ (x : SlotState). isHeard x ≡ true) (λ x e. e .0) hs
-            (entries-each f isHeard (heardIn f) (heardLong f) (heard-reader f) (secondCount f s) (drop (second f s + 1) s));
+        unheard = each-map (Entry f isOpened) (λ (x : SlotState). isOpened x ≡ true) (λ x e. e .0) us u;
+        heard = each-map (Entry f isHeard) (λ (x : SlotState). isHeard x ≡ true) (λ x e. e .0) hs h;
+        flags = each-append (λ (x : SlotState). entryLacks f x ≡ false) us hs
+            (each-map (Entry f isOpened) (λ (x : SlotState). entryLacks f x ≡ false) (λ x e. e .1 .1) us u)
+            (each-map (Entry f isHeard) (λ (x : SlotState). entryLacks f x ≡ false) (λ x e. e .1 .1) hs h);
         sound = a .0;
         first = a .1;
         second = a .2;

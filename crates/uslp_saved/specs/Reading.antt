@@ -6,6 +6,7 @@ use mathlib.Core.List.{List, [], _∷_, _++_}
 use Prim.Native.Nat.{ℕ, zero, suc, _+_, _*_, _-_, _<_, _≤_}
 use lib.ListN.{length, drop, getD}
 use Rattle.uslp_octets.specs.Octets.{Field, word, unpack, named}
+use Rattle.uslp_kinds.specs.declared.BypassSequenceControlFlag.the-variants.{SequenceControlledQoS}
 use Rattle.uslp_record.specs.Slots.{stateHolds, find, stateAt}
 use Rattle.uslp_record.specs.Made.{Sound}
 use Rattle.uslp_record.specs.declared.Channel.{Channel}
@@ -18,7 +19,7 @@ use Rattle.uslp_form.specs.Form.Form.{one}
 
 -- a channel and totals of zeros: their rows have the columns' names and widths
 abbrev pub noChannel : Channel
-noChannel = record { «spacecraft_id» = 0; «vc_id» = 0 }
+noChannel = record { «spacecraft_id» = 0; «vc_id» = 0; «sequence_control_flag» = SequenceControlledQoS }
 
 abbrev pub noTotals : Totals
 noTotals = record { last = 0; «handed_on» = 0; missing = 0; repeats = 0; late = 0 }
@@ -32,11 +33,12 @@ heardLong one = 44
 
 -- what a row says
 abbrev pub channelIn : Form → List Field → Channel
-channelIn one fs = record { «spacecraft_id» = named "spacecraft" fs; «vc_id» = named "channel" fs }
+channelIn one fs =
+    record { «spacecraft_id» = named "spacecraft" fs; «vc_id» = named "channel" fs; «sequence_control_flag» = SequenceControlledQoS }
 
 -- the same where it stands, from a place on
 abbrev pub channelAt : Form → ℕ → List ℕ → Channel
-channelAt one at s = record { «spacecraft_id» = word at 2 s; «vc_id» = word (at + 2) 1 s }
+channelAt one at s = record { «spacecraft_id» = word at 2 s; «vc_id» = word (at + 2) 1 s; «sequence_control_flag» = SequenceControlledQoS }
 
 abbrev pub totalsIn : List Field → Totals
 totalsIn fs =

@@ -3,6 +3,7 @@ use restoring::all_admitted;
 use restoring::has_form;
 use restoring::read_all;
 use saving::empty;
+use saving::lacks_flag;
 use saving::put_section;
 use uslp_kinds::DoneAnswer;
 use uslp_kinds::LengthAnswer;
@@ -20,7 +21,7 @@ ghost use Rattle.uslp_form.specs.Saved.{saving, Restoring};
 mod restoring;
 mod saving;
 
-// The most octets of a form: with a buffer of so many, saving is never refused.
+// The most octets of a form: with a buffer of so many, saving is never refused for room.
 pub const MAX_FORM_LEN: usize = 354;
 
 // An entry in octets: a channel that was opened but not heard, and one that was heard.
@@ -28,10 +29,13 @@ pub(crate) const UNHEARD_LEN: usize = 4;
 
 pub(crate) const HEARD_LEN: usize = 44;
 
-// Writes the record as octets of form 1 to the front of `to`. Refuses SHORT_TARGET.
+// Writes the record as octets of form 1 to the front of `to`. Refuses LACKS_FLAG, SHORT_TARGET.
 pub fn save(channels: ChannelRecord, to: &mut [u8]) -> LengthAnswer
     ensures { λ r. ⌜ leaving (paperLength r) (now (to .exit)) ≡ saving one channels (now (to .entry)) ⌝ }
 {
+    if lacks_flag(channels) {
+        return LengthAnswer::Refused(Refusal::LacksFlag);
+    }
     let out = put_section(put_section(empty(), channels, false), channels, true);
     let filled = out.octets;
     let found = to.len();

@@ -2,6 +2,7 @@
 use crate::HEARD_LEN;
 use crate::UNHEARD_LEN;
 use crate::saving::rank_of;
+use uslp_kinds::BypassSequenceControlFlag;
 use uslp_kinds::MAX_COUNT_LEN;
 use uslp_kinds::MAX_VC_ID;
 use uslp_octets::be_u16;
@@ -99,6 +100,7 @@ fn read_heard(from: &[u8], at: usize) -> SlotState
     }
 }
 
+// Form 1 is for sequence-controlled channels.
 fn channel_at(from: &[u8], at: usize) -> Channel
     requires { ⌜ at + 4 ≤ length (now from) ⌝ }
     ensures { λ r. ⌜ r ≡ channelAt one at (now (from .entry)) ⌝ }
@@ -106,6 +108,7 @@ fn channel_at(from: &[u8], at: usize) -> Channel
     Channel {
         spacecraft_id: be_u16(from[at], from[at + 1]),
         vc_id: from[at + 2],
+        sequence_control_flag: BypassSequenceControlFlag::SequenceControlledQoS,
     }
 }
 

@@ -1,34 +1,43 @@
--- Both sections are put, and copied where there is room.
+-- A flag that the form lacks is refused; else both sections are put, and copied where there is room.
 use borrow.Author.Needs.{needs}
-use mathlib.Core.Path.{_≡_, _∙_, ap}
+use mathlib.Core.Path.{_≡_, sym, _∙_, ap}
+use mathlib.Core.Bool.{false}
 use Prim.Native.Nat.{ℕ, _-_}
 use native.Mathlib.Nat.{sub-zero}
 use native.Mathlib.Omega.{arith}
 use lib.ListN.{length, take}
-use Rattle.uslp_form.specs.Form.{formOf}
+use Rattle.uslp_form.specs.Form.{anyLacks, formOf}
 use Rattle.uslp_form.specs.Form.Form.{one}
+use Rattle.uslp_form.proofs.Claims.{saving-lacks}
 use Rattle.uslp_saved.specs.Choice.{written}
 use Rattle.uslp_record.proofs.Seek.{long-of}
 use Rattle.uslp_saved.proofs.Walk.{both-sections, cells, save-short, save-done, sections-fit}
 use Rattle.uslp_saved.proofs.save.Statement.{statement}
 use Rattle.uslp_saved.proofs.save.Tie as tie
 
--- both sections stand in what was put
+-- the form lacks no flag, and both sections stand in what was put
 put-all : (p : tie.After-put-section2) → let o = p .put-section2 .result in
-    let r = p .before .before .before .before .args .channels in
-    (o .len ≡ length (formOf one r)) × (written o ≡ formOf one r)
+    let r = p .before .before .before .before .before .before .args .channels in
+    (anyLacks one (r .slots) ≡ false) × (o .len ≡ length (formOf one r)) × (written o ≡ formOf one r)
 put-all p =
-    both-sections _ _ _ (p .before .before .before .before .args .channels) (p .before .before .empty .ensures) (p .before .put-section .ensures)
-    (p .put-section2 .ensures)
+    let l = p .before .before .before in
+    let r = l .before .before .before .args .channels in
+    let b = both-sections _ _ _ r (p .before .before .empty .ensures) (p .before .put-section .ensures) (p .put-section2 .ensures) in
+    (sym (l .before .lacks-flag .ensures) ∙ l .if1 .left, b .0, b .1)
+
+returns : tie.Need-returns
+returns c =
+    let s = c .before .before .before in
+    sym (saving-lacks one (s .args .channels) (s .args .to .now) (sym (c .before .lacks-flag .ensures) ∙ c .if1 .taken))
 
 put-section-requires : tie.Need-put-section-requires
 put-section-requires c κs =
-    let s = c .before .before in
+    let s = c .before .before .before .before in
     omega (arith, c .empty .ensures .0, sections-fit (s .args .channels) (long-of (s .args .channels .slots) (s .good .0 .1 .1 .0 .1 .0 .1)))
 
 put-section-requires-2 : tie.Need-put-section-requires-2
 put-section-requires-2 c κs =
-    let s = c .before .before .before in
+    let s = c .before .before .before .before .before in
     omega (
       arith,
       c .before .empty .ensures .0,
@@ -37,35 +46,38 @@ put-section-requires-2 c κs =
           (long-of (s .args .channels .slots) (s .good .0 .1 .1 .0 .1 .0 .1)),
     )
 
-returns : tie.Need-returns
-returns c =
-    let p = c .before .before in
-    let s = p .before .before .before .before in
-    save-short (s .args .channels) (s .args .to .now) _ (put-all p .0) (omega arith)
-
-part-copy-octets-end : tie.Need-part-copy-octets-end
-part-copy-octets-end c = cells _ _ (put-all (c .before .before .before))
-
 returns-2 : tie.Need-returns-2
 returns-2 c =
+    let p = c .before .before in
+    let s = p .before .before .before .before .before .before in
+    let b = put-all p in
+    save-short (s .args .channels) (s .args .to .now) _ (b .0) (b .1) (omega arith)
+
+part-copy-octets-end : tie.Need-part-copy-octets-end
+part-copy-octets-end c = let b = put-all (c .before .before .before) in cells _ _ (b .1, b .2)
+
+returns-3 : tie.Need-returns-3
+returns-3 c =
     let p = c .before .before .before .before .before .before .before .before in
-    let s = p .before .before .before .before in
+    let s = p .before .before .before .before .before .before in
     let b = put-all p in
     let o = p .put-section2 .result in
-    save-done (s .args .channels) (s .args .to .now) (o .len) (b .0) (take (o .len - 0) (o .octets)) _ (omega arith)
-    (ap (λ (k : ℕ). take k (o .octets)) (sub-zero (o .len)) ∙ b .1) (c .before .before .copy-octets .ensures)
+    save-done (s .args .channels) (s .args .to .now) (o .len) (b .0) (b .1) (take (o .len - 0) (o .octets)) _ (omega arith)
+    (ap (λ (k : ℕ). take k (o .octets)) (sub-zero (o .len)) ∙ b .2) (c .before .before .copy-octets .ensures)
 
 pub save-spec : {M : Type 1} → statement M
 save-spec =
     tie.close
     (tie.spec
     (λ c κs. search needs)
+    returns
+    (λ c κs. search needs)
     put-section-requires
     put-section-requires-2
-    returns
+    returns-2
     (λ c. search needs)
     (λ c. search needs)
     part-copy-octets-end
     (λ c κs. search needs)
     (λ c. search needs)
-    returns-2)
+    returns-3)

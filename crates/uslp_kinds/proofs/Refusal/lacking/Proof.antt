@@ -7,7 +7,7 @@ use types.Run.{OneOf, miss}
 use denote.Enum.Declared.{tagOf}
 use Rattle.uslp_kinds.specs.Answers.{lackingOf}
 use Rattle.uslp_kinds.specs.declared.Refusal.{Refusal}
-use Rattle.uslp_kinds.specs.declared.Refusal.the-variants.{ShortSource, ShortTarget, Truncated, BadVersion, BadProtocol, BadChecksum, FrameTooShort, BadCount, BadPointer, BadField, OcfMissing, TooLong, NotOpen, OtherWidth, AlreadyOpen, TableFull, TotalFull, BadForm}
+use Rattle.uslp_kinds.specs.declared.Refusal.the-variants.{ShortSource, ShortTarget, Truncated, BadVersion, BadProtocol, BadChecksum, FrameTooShort, BadCount, BadPointer, BadField, OcfMissing, TooLong, NotOpen, OtherWidth, AlreadyOpen, TableFull, TotalFull, BadForm, LacksFlag}
 use Rattle.uslp_kinds.proofs.Refusal.{the-type}
 use borrow.Author.Needs.{needs}
 use Rattle.uslp_kinds.proofs.Refusal.lacking.Statement.{statement}
@@ -15,7 +15,7 @@ use Rattle.uslp_kinds.proofs.Refusal.lacking.Tie as tie
 
 -- the rows that the last arm stands for
 abbrev others : List ℕ
-others = 1 ∷ 2 ∷ 3 ∷ 4 ∷ 5 ∷ 6 ∷ 7 ∷ 8 ∷ 9 ∷ 10 ∷ 11 ∷ 12 ∷ 13 ∷ 14 ∷ 15 ∷ 16 ∷ 17 ∷ []
+others = 1 ∷ 2 ∷ 3 ∷ 4 ∷ 5 ∷ 6 ∷ 7 ∷ 8 ∷ 9 ∷ 10 ∷ 11 ∷ 12 ∷ 13 ∷ 14 ∷ 15 ∷ 16 ∷ 17 ∷ 18 ∷ []
 
 lacks-nothing : (r : Refusal) → OneOf others (tagOf the-type r) → 0 ≡ lackingOf r
 lacks-nothing (ShortSource a b) h = absurd (miss others 0 tt h)
@@ -36,6 +36,7 @@ lacks-nothing AlreadyOpen h = refl
 lacks-nothing TableFull h = refl
 lacks-nothing TotalFull h = refl
 lacks-nothing BadForm h = refl
+lacks-nothing LacksFlag h = refl
 
 short-lacks : (r : Refusal) (n found expected : ℕ) → r ≡ ShortSource found expected → n ≡ expected - found → n ≡ lackingOf r
 short-lacks r n found expected e h = h ∙ sym (ap lackingOf e)
