@@ -31,9 +31,10 @@ use Rattle.uslp_form.proofs.Rows.{sound-fits}
 use Rattle.uslp_form.proofs.Claims.{saving-done, form-long}
 use Rattle.uslp_hearing.specs.Hearing.{channelOf, hearingBy, frameHearing}
 use Rattle.uslp_counting.specs.Places.{furthest, aheadOf, leaders, Close, Window, lost}
-use Rattle.uslp_counting.specs.History.{Call, recordOf, called, Roomy, run, handed, missingFor, Sender, frameAt, Event, handingAt, places}
+use Rattle.uslp_counting.specs.History.{Call, recordOf, called, Roomy, run, handed, Unfilled, missingFor, Sender, frameAt, Event, handingAt, places}
 use Rattle.uslp_counting.specs.History.Call.{hears}
 use Rattle.uslp_counting.specs.History.Event.{arrives, elsewhere}
+use Rattle.uslp_counting.specs.Demand.{Demand3}
 use Rattle.uslp_counting.specs.Restarts.{Wrote, Leads}
 use Rattle.uslp_counting.specs.Restarts.Leads.{ends, next}
 use Rattle.uslp_counting.specs.Updated.{unflagged, Demand3Updated}
@@ -112,7 +113,32 @@ led-there : Leads (hearingBy unflagged) sender begun there (handingAt sender 0 0
 unfolding oven frameReading headerReading fieldReading judging find
 led-there = next (arrives 0 [] ∷ []) (sent 0) refl first-room (next (hurried ∷ []) (rushed 0) refl second-room ends)
 
--- It is saved, and restored here, where place 1 arrives.
+-- Then place 1 arrives there: the console lacks nothing, and has six missing. So a hearing that ignores the flag does not have demand 3.
+third-room-there : Roomy channelOf (hearingBy unflagged) craft misled (sent 1)
+unfolding oven frameReading headerReading fieldReading judging find
+third-room-there x e k f = not-done (sym f)
+
+six-there : missingFor craft (run channelOf (hearingBy unflagged) craft begun (sent 0 ∷ rushed 0 ∷ sent 1 ∷ [])) ≡ 6
+unfolding run oven frameReading headerReading fieldReading judging find
+six-there = refl
+
+near : Window 128 [] (0 ∷ 1 ∷ [])
+unfolding Window Close furthest
+near = (tt, ((omega arith, omega arith), tt))
+
+none-lost : lost (leaders [] (0 ∷ 1 ∷ [])) ≡ 0
+unfolding leaders aheadOf furthest
+none-lost = lost-more 0 1 [] (omega arith) ∙ omega (arith, lost-one 0)
+
+pub no-ignorer : Demand3 channelOf (hearingBy unflagged) → ⊥
+unfolding places Unfilled
+no-ignorer demand =
+    let d = demand craft 1 false sender (omega arith) (omega arith) emptyRecord begun refl begins (arrives 0 [] ∷ hurried ∷ arrives 1 [] ∷ [])
+    (sent 0 ∷ rushed 0 ∷ sent 1 ∷ []) refl near (first-room, (second-room, (third-room-there, tt))) in
+    let z : _≡_ {A = ℕ} 6 0 = sym six-there ∙ d .1 ∙ none-lost in
+    omega arith
+
+-- Or it is saved, and restored here, where place 1 arrives.
 are-heard : (flag : BypassSequenceControlFlag) (start : ℕ) → AreOctets (frameAt (oven flag start 1 (omega arith) false) 0 ++ [])
 are-heard flag start = are-append (frameAt (oven flag start 1 (omega arith) false) 0) [] (are-oven flag start 0) (λ i. lit< tt)
 
@@ -159,15 +185,11 @@ pub six-missing : missingFor craft after ≡ 6
 unfolding oven frameReading headerReading fieldReading judging find sorted insert
 six-missing = refl
 
-none-lost : lost (leaders [] (places there ++ places {name = channelOf} {K = craft} {width = 1} (arrives 1 [] ∷ []))) ≡ 0
-unfolding leaders places aheadOf furthest
-none-lost = lost-more 0 1 [] (omega arith) ∙ omega (arith, lost-one 0)
-
-pub not-without : Demand3Updated (λ K c. Unit {0}) → ⊥
-unfolding places Window Close furthest
+pub not-without : Demand3Updated (λ K c. Unit {0}) frameHearing → ⊥
+unfolding places
 not-without demand =
     let d = demand craft refl 1 false sender (omega arith) (omega arith) emptyRecord begun refl begins there (handingAt sender 0 0 ∷ []) misled led-there
     (tt, (tt, tt)) (formOf one misled) emptyRecord back (λ i. sound-fits one (stateAt misled i) (made-misled .sound i)) wrote-misled
-    (restores-wrote made-misled wrote-misled emptyRecord) (arrives 1 [] ∷ []) [] after led-here (tt, ((omega arith, omega arith), tt)) in
+    (restores-wrote made-misled wrote-misled emptyRecord) (arrives 1 [] ∷ []) [] after led-here near in
     let z : _≡_ {A = ℕ} 6 0 = sym six-missing ∙ d .1 ∙ none-lost in
     omega arith

@@ -74,7 +74,7 @@ module _ (K : Channel) (plain : K .«sequence_control_flag» ≡ SequenceControl
   each-agrees [] none = tt
   each-agrees (c ∷ cs) none = (agrees-heard c (none .0), each-agrees cs (none .1))
 
-pub updated : Demand3Updated NoExpedited
+pub updated : Demand3Updated NoExpedited frameHearing
 updated K plain width fecf S lo hi r₀ r long begins es hs m led none s found q fit w h ds gs z on near =
     let a = counts S unflagged lo hi (steps-of (hearingBy unflagged) S led) (each-agrees K plain (map (callOf S) es) none) [] [] (places ds)
     (Opened K width) (stands-opened K width r₀ r long begins) quiet near in

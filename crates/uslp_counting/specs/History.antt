@@ -46,7 +46,7 @@ answerOf (keeping o r) = o
 abbrev pub Handing : Type 0
 Handing = ℕ × TransferFrame × List ℕ
 
--- All that follows is said over how a frame names its channel, `name`: by spacecraft, number and flag as here, or in any other way.
+-- What follows is said over how a frame names its channel, `name`: by spacecraft, number and flag as here, or in any other way.
 
 -- what one hearing of the octets s hands on for the channel K
 module _ (name : Naming) where

@@ -17,9 +17,9 @@ use Rattle.uslp_record.specs.declared.ChannelRecord.{ChannelRecord}
 use Rattle.uslp_form.specs.Form.{Fitting}
 use Rattle.uslp_form.specs.Form.Form.{one}
 use Rattle.uslp_form.specs.Saved.{Restoring}
-use Rattle.uslp_hearing.specs.Hearing.{Naming, channelOf, hearingBy, frameHearing}
+use Rattle.uslp_hearing.specs.Hearing.{Naming, channelOf, hearingBy}
 use Rattle.uslp_counting.specs.Places.{leaders, Window, lost}
-use Rattle.uslp_counting.specs.History.{Call, EachCall, Handing, missingFor, Sender, Event, callOf, handings, places}
+use Rattle.uslp_counting.specs.History.{Hearer, Call, EachCall, Handing, missingFor, Sender, Event, callOf, handings, places}
 use Rattle.uslp_counting.specs.History.Call.{hears, hears-many, opens, closes}
 use Rattle.uslp_counting.specs.Restarts.{Wrote, Leads}
 
@@ -51,15 +51,15 @@ Unflagged (opens k width) = k .«sequence_control_flag» ≡ SequenceControlledQ
 Unflagged (closes k) = k .«sequence_control_flag» ≡ SequenceControlledQoS
 
 -- Demand 3 of a channel that was opened at such a console: events es led there to the record m, each call as `Heard` asks; saving m wrote the
--- octets s, and they are restored here, whatever record is found; events ds follow here. Then it is as if all had happened at one console.
-abbrev pub Demand3Updated : (Channel → Call → Type 0) → Type 0
-Demand3Updated Heard =
+-- octets s, and they are restored here, whatever record is found; events ds follow here, heard by H. Then it is as if all had happened here.
+abbrev pub Demand3Updated : (Channel → Call → Type 0) → Hearer → Type 0
+Demand3Updated Heard H =
     (K : Channel) → K .«sequence_control_flag» ≡ SequenceControlledQoS → (width : ℕ) (fecf : Bool) (S : Sender channelOf K width fecf)
     → 1 ≤ width → width ≤ 7
     → (r₀ r : ChannelRecord) → length (r₀ .slots) ≡ 8 → opening r₀ K width ≡ keeping (done tt) r
     → (es : List (Event channelOf K width)) (hs : List Handing) (m : ChannelRecord) → Leads (hearingBy unflagged) S r es hs m
     → EachCall (Heard K) (map (callOf S) es)
     → (s : List ℕ) (found q : ChannelRecord) → Fitting one m → Wrote one m s → Restoring one found s (keeping (done tt) q)
-    → (ds : List (Event channelOf K width)) (gs : List Handing) (z : ChannelRecord) → Leads frameHearing S q ds gs z
+    → (ds : List (Event channelOf K width)) (gs : List Handing) (z : ChannelRecord) → Leads H S q ds gs z
     → Window (256 ^ width / 2) [] (places es ++ places ds)
     → (hs ++ gs ≡ handings S (leaders [] (places es ++ places ds))) × (missingFor K z ≡ lost (leaders [] (places es ++ places ds)))
