@@ -192,7 +192,7 @@ def add(tally, answer):
 
 
 def history(rng, frames):
-    """The commands, the answers that are due, and how many frames came while both flags of their channel were open."""
+    """The commands, the answers that are due, and how many frames came while both flags of their channel number were open."""
     senders = {}
     for _ in range(rng.randint(1, 6)):
         craft, channel, flag, fecf = rng.choice([0, 7, 0x1234, 0xFFFF]), rng.randrange(64), rng.randrange(2), rng.randrange(2)
@@ -345,7 +345,8 @@ def main():
             f.write("".join(c + "\n" for c in all_commands))
         with open(out + "/stdout", "w") as f:
             f.write("".join(a + "\n" for a in ask_program(program, all_commands)))
-    print(f"{number} histories of {frames} frames, {steps} answers, {at_once} of them to many, all equal; {mixed} frames with both flags of their channel open")
+    print(f"{number} histories of {frames} frames, {steps} answers, {at_once} of them to many, all equal")
+    print(f"{mixed} frames came while both flags of their channel number were open")
 
 
 main()

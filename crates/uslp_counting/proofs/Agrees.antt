@@ -4,16 +4,15 @@ use mathlib.Core.List.{List, [], _∷_}
 use Rattle.uslp_kinds.specs.Outcome.{done}
 use Rattle.uslp_reader.specs.Reader.{frameReading}
 use Rattle.uslp_reader.specs.declared.TransferFrame.{TransferFrame}
-use Rattle.uslp_record.specs.Slots.{sameChannel}
 use Rattle.uslp_record.specs.declared.Channel.{Channel}
 use Rattle.uslp_hearing.specs.Hearing.{Naming}
-use Rattle.uslp_counting.specs.History.{Call, EachCall}
+use Rattle.uslp_counting.specs.History.{Call, EachCall, isOf}
 use Rattle.uslp_counting.specs.History.Call.{hears, hears-many, opens, closes}
 
 -- of a frame that is heard by itself, both say alike whether it is of the channel K
 abbrev pub Agrees : Naming → Naming → Channel → Call → Type 0
 Agrees name by K (hears s fecf) =
-    (x : TransferFrame) → frameReading s fecf ≡ done x → sameChannel (by (x .«primary_header»)) K ≡ sameChannel (name (x .«primary_header»)) K
+    (x : TransferFrame) → frameReading s fecf ≡ done x → isOf by K x ≡ isOf name K x
 Agrees name by K (hears-many s fecf) = Unit {0}
 Agrees name by K (opens k width) = Unit {0}
 Agrees name by K (closes k) = Unit {0}

@@ -1,6 +1,6 @@
 -- Every record that calls made, restorings among them: its console total, and that a saving of it comes back.
 use mathlib.Core.Path.{_≡_, refl, sym, subst}
-use mathlib.Core.Bool.{Bool, false}
+use mathlib.Core.Bool.{Bool}
 use mathlib.Core.List.{List, [], _∷_, _++_, map}
 use Prim.Native.Nat.{ℕ, _≤_}
 use lib.ListN.{length, drop}
@@ -12,11 +12,11 @@ use Rattle.uslp_record.specs.Made.{Made}
 use Rattle.uslp_record.specs.declared.Channel.{Channel}
 use Rattle.uslp_record.specs.declared.ChannelRecord.{ChannelRecord}
 use Rattle.uslp_record.proofs.Keeps.{made-empty, made-opening, made-closing}
-use Rattle.uslp_form.specs.Form.{Form, anyLacks, formOf, restored}
+use Rattle.uslp_form.specs.Form.{Form, Whole, formOf, restored}
 use Rattle.uslp_form.specs.Saved.{saving, Restoring}
 use Rattle.uslp_form.specs.Saved.Restoring.{good, bad}
 use Rattle.uslp_form.proofs.Trips.{entriesOf, made-good}
-use Rattle.uslp_form.proofs.Rows.{sound-fits, restores-done}
+use Rattle.uslp_form.proofs.Rows.{sound-fits, restores-done, restores-refused}
 use Rattle.uslp_form.proofs.Claims.{saving-done, Back, restores-saved, comes-back}
 use Rattle.uslp_reader.specs.EndToEnd.{cut}
 use Rattle.uslp_reader.specs.declared.TransferFrame.{TransferFrame}
@@ -30,7 +30,7 @@ use Rattle.uslp_counting.specs.History.{EachCall, recordOf, Handing, hea
 use Rattle.uslp_counting.specs.History.Call.{hears as hearing, hears-many as many, opens as opening, closes as closing}
 use Rattle.uslp_counting.specs.Console.{missingOverOpen, Given}
 use Rattle.uslp_counting.specs.Restarts.{Wrote, Restart, Leads, Called}
-use Rattle.uslp_counting.specs.Restarts.Restart.{resumes}
+use Rattle.uslp_counting.specs.Restarts.Restart.{resumes, refuses}
 use Rattle.uslp_counting.specs.Restarts.Leads.{ends, next, restart}
 use Rattle.uslp_counting.specs.Restarts.Called.{new, opens, closes, hears, hears-many, restores}
 use Rattle.uslp_counting.proofs.Restarts.{wrote-form, wrote-whole, leads-keep}
@@ -61,13 +61,12 @@ pub record CameBack (f : Form) (r : ChannelRecord) (b : List ℕ) (found : Chann
   pub restores : Restoring f found (formOf f r) (keeping (done tt) q)
   pub back : Back f r q
 
--- where the form lacks no flag of its open channels
-pub called-back : {r : ChannelRecord} → Called r → (f : Form) → anyLacks f (r .slots) ≡ false → (b : List ℕ) → length (formOf f r) ≤ length b
+-- where the form says its open channels whole
+pub made-back : {r : ChannelRecord} → Made r → (f : Form) → Whole f r → (b : List ℕ) → length (formOf f r) ≤ length b
     → (found : ChannelRecord) → CameBack f r b found
-called-back {r} c f whole b room found =
+made-back {r} made f whole b room found =
     let s = formOf f r in
     let rest = drop (length s) b in
-    let made = made-called c in
     let e = saving-done f r b whole room in
     record {
       saves = e;
@@ -76,6 +75,10 @@ called-back {r} c f whole b room found =
       restores = restores-saved f r made whole found;
       back = comes-back f r made whole found;
     }
+
+pub called-back : {r : ChannelRecord} → Called r → (f : Form) → Whole f r → (b : List ℕ) → length (formOf f r) ≤ length b
+    → (found : ChannelRecord) → CameBack f r b found
+called-back c = made-back (made-called c)
 
 -- the record after a call of many frames is the one that the call leaves
 many-counted : (K : Channel) (fecf : Bool) (fs : List (TransferFrame × List ℕ)) (t : Tally) (r : ChannelRecord)
@@ -117,6 +120,15 @@ module _ (K : Channel) where
 called-restored : {f : Form} {found q : ChannelRecord} {s : List ℕ} → Restoring f found s (keeping (done tt) q) → Called q
 called-restored {f} {s} h = let d = restores-done f h in subst Called (d .is) (restores f s (good (d .unheard) (d .heard) (d .is-good)) new)
 
+called-restart : {r q : ChannelRecord} → Restart r q → Called r → Called q
+called-restart (resumes f fit w h) c = called-restored h
+called-restart (refuses f s h) c = restores f s h c
+
+-- a restart keeps what holds of records that calls made
+pub made-restart : {r q : ChannelRecord} → Restart r q → Made r → Made q
+made-restart (resumes f fit w h) made = made-called (called-restored h)
+made-restart (refuses f s h) made = subst Made (restores-refused f h) made
+
 -- octets that saving m wrote are restored, whatever record is found
 module _ {f : Form} {m : ChannelRecord} {s : List ℕ} (made : Made m) (w : Wrote f m s) (found : ChannelRecord) where
   pub restores-wrote : Restoring f found s (keeping (done tt) (restored (entriesOf f m)))
@@ -138,7 +150,7 @@ module _ {K : Channel} {width : ℕ} {fecf : Bool} (S : Sender channelOf K width
   -- so what a run leads to from such a record is such a record
   pub leads-called : {r q : ChannelRecord} {es : List (Event channelOf K width)} {hs : List Handing} → Called r → EachCall Given (map (callOf S) es)
       → Leads frameHearing S r es hs q → Called q
-  leads-called c given l = leads-keep frameHearing S Called Given (λ e r. called-call K (callOf S e)) (λ f found q s. called-restored) l c given
+  leads-called c given l = leads-keep frameHearing S Called Given (λ e r. called-call K (callOf S e)) (λ r q. called-restart) l c given
 
   -- the octets s are restored where the record `found` is: done, and the run from r goes on
   pub record GoesOn (r : ChannelRecord) (es : List (Event channelOf K width)) (hs : List Handing) (f : Form) (found : ChannelRecord) (s : List ℕ) : Type 0 where

@@ -7,7 +7,6 @@ use native.Mathlib.Omega.{arith}
 use native.Mathlib.Decide.{decLt}
 use Rattle.uslp_kinds.specs.Outcome.{Outcome, done, refused, andThen}
 use Rattle.uslp_kinds.proofs.Outcomes.{not-done, done-one}
-use Rattle.uslp_record.specs.Slots.{sameChannel}
 use Rattle.uslp_record.specs.Record.{Kept, keeping}
 use Rattle.uslp_record.specs.Judging.{widthAt, judging, taken}
 use Rattle.uslp_record.specs.declared.Channel.{Channel}
@@ -22,7 +21,7 @@ use Rattle.uslp_reader.specs.Reader.{frameReading, contentsIn}
 use Rattle.uslp_reader.specs.declared.TransferFrame.{TransferFrame}
 use Rattle.uslp_hearing.specs.Hearing.{Naming, withFrame, judgedBy, hearingBy}
 use Rattle.uslp_hearing.specs.declared.FrameArrival.{FrameArrival}
-use Rattle.uslp_counting.specs.History.{recordOf, answerOf, handing, Roomy}
+use Rattle.uslp_counting.specs.History.{recordOf, answerOf, isOf, handing, Roomy}
 use Rattle.uslp_counting.specs.History.Call.{hears}
 use Rattle.uslp_counting.proofs.Stands.{Stands, stands-judging}
 use Rattle.uslp_counting.proofs.Agrees.{Agrees}
@@ -46,7 +45,7 @@ module _ (name by : Naming) (K : Channel) (r : ChannelRecord) (t : SlotState) (a
 
   module _ (s : List ℕ) where
     -- a frame of another channel that was read
-    passes-other : (x : TransferFrame) → sameChannel (name (x .«primary_header»)) K ≡ false → (o : Outcome (Arrival × Change))
+    passes-other : (x : TransferFrame) → isOf name K x ≡ false → (o : Outcome (Arrival × Change))
         → Stands K (recordOf (taken r o)) t
         → Passes name K s t (taken r (withFrame x o))
     passes-other x other (done (New gap, c)) h =
@@ -68,7 +67,7 @@ module _ (name by : Naming) (K : Channel) (r : ChannelRecord) (t : SlotState) (a
         roomy-damaged x d = absurd (not-done (sym e ∙ d))
 
       module _ (agree : Agrees name by K (hears s fecf)) (x : TransferFrame) (e : frameReading s fecf ≡ done x) where
-        module _ (other : sameChannel (name (x .«primary_header»)) K ≡ false) where
+        module _ (other : isOf name K x ≡ false) where
           pub passes-elsewhere : Passes name K s t (hearingBy by r s fecf)
           passes-elsewhere =
               let h = x .«primary_header» in
@@ -79,11 +78,11 @@ module _ (name by : Naming) (K : Channel) (r : ChannelRecord) (t : SlotState) (a
           pub roomy-elsewhere : Roomy name (hearingBy by) K r (hears s fecf)
           roomy-elsewhere y d same =
               let z : x ≡ y = done-one (sym e ∙ d) in
-              absurd (true-false same (ap (λ (v : TransferFrame). sameChannel (name (v .«primary_header»)) K) (sym z) ∙ other))
+              absurd (true-false same (ap (λ (v : TransferFrame). isOf name K v) (sym z) ∙ other))
 
         -- a frame of the channel in another width: whatever holds of a refusal that is not for a total
         module _ (odd : x .«primary_header» .«vc_frame_count_len» ≡ widthAt t → ⊥) where
-          misfit : (P : Kept FrameArrival → Type 0) → sameChannel (name (x .«primary_header»)) K ≡ true
+          misfit : (P : Kept FrameArrival → Type 0) → isOf name K x ≡ true
               → ((j : ℕ) (vs : List ℕ) → j < 17 → P (keeping (refused j vs) r)) → P (hearingBy by r s fecf)
           misfit P same f =
               let h = x .«primary_header» in
@@ -94,9 +93,9 @@ module _ (name by : Naming) (K : Channel) (r : ChannelRecord) (t : SlotState) (a
               (misfit-ways (λ (o : Outcome (Arrival × Change)). P (taken r (withFrame x o))) w n odd f))
 
           pub passes-misfit : Passes name K s t (hearingBy by r s fecf)
-          passes-misfit = go (sameChannel (name (x .«primary_header»)) K) refl
+          passes-misfit = go (isOf name K x) refl
             where
-              go : (b : Bool) → sameChannel (name (x .«primary_header»)) K ≡ b → Passes name K s t (hearingBy by r s fecf)
+              go : (b : Bool) → isOf name K x ≡ b → Passes name K s t (hearingBy by r s fecf)
               go true same = misfit (Passes name K s t) same (λ j vs low. record { nothing = refl; stands = at })
               go false other = passes-elsewhere other
 
@@ -104,5 +103,5 @@ module _ (name by : Naming) (K : Channel) (r : ChannelRecord) (t : SlotState) (a
           roomy-misfit y d same =
               let z : x ≡ y = done-one (sym e ∙ d) in
               misfit (λ (q : Kept FrameArrival). answerOf q ≡ refused 17 [] → ⊥)
-              (ap (λ (v : TransferFrame). sameChannel (name (v .«primary_header»)) K) z ∙ same)
+              (ap (λ (v : TransferFrame). isOf name K v) z ∙ same)
               (λ j vs low f. let g : j ≡ 17 = cc in omega arith)

@@ -13,7 +13,7 @@ use Rattle.uslp_reader.specs.Reader.{frameReading}
 use Rattle.uslp_record.specs.Slots.{find, emptyRecord}
 use Rattle.uslp_record.specs.Judging.{judging}
 use Rattle.uslp_record.specs.declared.ChannelRecord.{ChannelRecord}
-use Rattle.uslp_form.specs.Form.{anyLacks, insert, sorted, restored}
+use Rattle.uslp_form.specs.Form.{anyLacks, Whole, insert, sorted, restored}
 use Rattle.uslp_form.specs.Form.Form.{one}
 use Rattle.uslp_form.proofs.Trips.{entriesOf}
 use Rattle.uslp_form.proofs.Claims.{form-long}
@@ -43,7 +43,7 @@ called-heard =
     hears (frameAt sender 0 ++ []) false (are-append (frameAt sender 0) [] (are-sent 0) (λ i. lit< tt))
     (subst Called (ap recordOf begins) (opens craft 1 (lit< tt) new))
 
-whole-heard : anyLacks one (heard .slots) ≡ false
+whole-heard : Whole one heard
 unfolding oven frameReading headerReading fieldReading judging find anyLacks
 whole-heard = refl
 

@@ -1,14 +1,13 @@
 -- A restart leaves every channel standing as it stood; what a run keeps.
 use mathlib.Core.Path.{_≡_, refl, sym, _∙_, ap₂, subst}
-use mathlib.Core.Bool.{Bool, true, false}
+use mathlib.Core.Bool.{Bool, true}
 use mathlib.Core.List.{List, _++_, map}
 use Prim.Native.Nat.{ℕ, _≤_}
 use native.Mathlib.Omega.{arith}
 use lib.ListN.{length, take, drop}
 use lib.Seq.{take-append-seam}
-use Rattle.uslp_kinds.specs.Outcome.{done}
 use Rattle.uslp_record.specs.Slots.{holds, find, slotOf}
-use Rattle.uslp_record.specs.Record.{keeping, opening, closing}
+use Rattle.uslp_record.specs.Record.{opening, closing}
 use Rattle.uslp_record.specs.declared.Channel.{Channel}
 use Rattle.uslp_record.specs.declared.SlotState.{SlotState}
 use Rattle.uslp_record.specs.declared.SlotState.the-variants.{Closed}
@@ -16,8 +15,7 @@ use Rattle.uslp_record.proofs.Seek.{finds}
 use Rattle.uslp_record.proofs.Slots.{seek-passes}
 use Rattle.uslp_record.specs.declared.ChannelRecord.{ChannelRecord}
 use Rattle.uslp_form.specs.Entries.{Each, Once, isOpened, isHeard}
-use Rattle.uslp_form.specs.Form.{Form, entryLacks, anyLacks, sorted, formOf, Fitting, GoodForm, restored}
-use Rattle.uslp_form.specs.Saved.{Restoring}
+use Rattle.uslp_form.specs.Form.{Form, EntryWhole, Whole, sorted, formOf, Fitting, GoodForm, restored}
 use Rattle.uslp_form.proofs.Each.{each-from}
 use Rattle.uslp_form.proofs.Sorted.{sorted-each}
 use Rattle.uslp_form.proofs.Flags.{none-lacks}
@@ -40,7 +38,7 @@ module _ {f : Form} {r : ChannelRecord} {s : List ℕ} (w : Wrote f r s) where
   wrote-saves : Saves f r (w .buffer) (w .count) (w .left)
   wrote-saves = saves f r (w .buffer) (sym (w .saves))
 
-  pub wrote-whole : anyLacks f (r .slots) ≡ false
+  pub wrote-whole : Whole f r
   wrote-whole = wrote-saves .whole
 
   pub wrote-form : s ≡ formOf f r
@@ -48,17 +46,17 @@ module _ {f : Form} {r : ChannelRecord} {s : List ℕ} (w : Wrote f r s) where
       sym (w .octets) ∙ ap₂ (λ (k : ℕ) (l : List ℕ). take k l) (wrote-saves .count) (wrote-saves .left)
       ∙ take-append-seam (formOf f r) (drop (length (formOf f r)) (w .buffer))
 
-module _ (f : Form) (r : ChannelRecord) (fit : Fitting f r) (whole : anyLacks f (r .slots) ≡ false) where
+module _ (f : Form) (r : ChannelRecord) (fit : Fitting f r) (whole : Whole f r) where
   -- what is saved of either kind is of that kind, and its row gives it back
   saved-entries : (test : SlotState → Bool) → Each (Entry f test) (sorted f test (r .slots))
   saved-entries test =
       sorted-each f test (Entry f test) (r .slots)
       (each-from (λ (x : SlotState). test x ≡ true → Entry f test x) (r .slots)
-      (λ j h e. (e, (fit j, each-at (λ (x : SlotState). entryLacks f x ≡ false) (r .slots) (none-lacks f (r .slots) whole) refl j))))
+      (λ j h e. (e, (fit j, each-at (EntryWhole f) (r .slots) (none-lacks f (r .slots) whole) refl j))))
 
   -- the entries of octets that a saving wrote are those that it saved
   module _ (us hs : List SlotState) (g : GoodForm f (formOf f r) us hs) where
-    entries-back : us ++ hs ≡ entriesOf f r
+    pub entries-back : us ++ hs ≡ entriesOf f r
     entries-back =
         let e =
         form-one f us (unheardOf f r) hs (heardOf f r) (good-unheard f g) (saved-entries isOpened) (good-heard f g) (saved-entries isHeard)
@@ -97,16 +95,15 @@ event-keeps H S P Ok hear start end (opened k w o) r ok = start r k w ok
 event-keeps H S P Ok hear start end (closed k o) r ok = end r k ok
 event-keeps H {K} S P Ok hear start end (again w) r ok = start r K w ok
 
--- what each call and each restoring that is done keep, a run keeps
+-- what the call of each event and each restart keep, a run keeps
 module _ {name : Naming} (H : Hearer) {K : Channel} {width : ℕ} {fecf : Bool} (S : Sender name K width fecf) (P : ChannelRecord → Type 0)
     (Ok : Call → Type 0) (call : (e : Event name K width) (r : ChannelRecord) → Ok (callOf S e) → P r → P (called name H K r (callOf S e) .1))
-    (back : (f : Form) (found q : ChannelRecord) (s : List ℕ) → Restoring f found s (keeping (done tt) q) → P q) where
+    (back : (r q : ChannelRecord) → Restart r q → P r → P q) where
   steps-keep : {r q : ChannelRecord} {es : List (Event name K width)} {hs : List Handing} → Steps H S r es hs q
       → P r → EachCall Ok (map (callOf S) es) → P q
   steps-keep ends p ok = p
   steps-keep (next e room l) p ok = steps-keep l (call e _ (ok .0) p) (ok .1)
-  steps-keep (restart (resumes f fit w h) l) p ok = steps-keep l (back f _ _ _ h) ok
-  steps-keep (restart (refuses f s h) l) p ok = steps-keep l (subst P (restores-refused f h) p) ok
+  steps-keep (restart g l) p ok = steps-keep l (back _ _ g p) ok
 
   pub leads-keep : {r q : ChannelRecord} {es : List (Event name K width)} {hs : List Handing} → Leads H S r es hs q
       → P r → EachCall Ok (map (callOf S) es) → P q

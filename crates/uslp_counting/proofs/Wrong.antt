@@ -1,27 +1,30 @@
 -- No hearing that has demand 3, and does not answer TOTAL_FULL on these few frames, is one of the tempting wrong ones.
 use mathlib.Core.Path.{_≡_, refl, sym, ap, _∙_}
 use mathlib.Core.Bool.{Bool, true, false, cond}
-use mathlib.Core.List.{List, [], _∷_, _++_}
+use mathlib.Core.List.{List, [], _∷_, _++_, map}
 use Prim.Native.Nat.{ℕ, _-_, _<_, _≤_}
 use native.Mathlib.Omega.{arith}
 use lib.ListN.{length, length-append}
 use Rattle.uslp_kinds.specs.Outcome.{Outcome, done, refused}
 use Rattle.uslp_reader.specs.Reader.{contentsIn}
-use Rattle.uslp_record.specs.Slots.{sameChannel, find, emptyRecord}
+use Rattle.uslp_record.specs.Slots.{find, emptyRecord}
 use Rattle.uslp_record.specs.declared.Channel.{Channel}
 use Rattle.uslp_record.specs.declared.ChannelRecord.{ChannelRecord}
 use Rattle.uslp_hearing.specs.Hearing.{channelOf}
 use Rattle.uslp_hearing.specs.declared.FrameArrival.{FrameArrival}
 use Rattle.uslp_hearing.specs.declared.FrameArrival.the-variants.{New, Repeat, Late}
-use Rattle.uslp_counting.specs.Places.{aheadOf, leaders}
-use Rattle.uslp_counting.specs.History.{Hearer, Handing, recordOf, answerOf, handing, run, handed, Unfilled, missingFor, frameAt, handings, following, places}
+use Rattle.uslp_counting.specs.Places.{aheadOf, leaders, Close, Window}
+use Rattle.uslp_counting.specs.History.{Hearer, Handing, recordOf, answerOf, isOf, handing, run, handed, Unfilled, missingFor, frameAt, callOf, handings, following, places}
+use Rattle.uslp_counting.specs.History.Event.{arrives}
 use Rattle.uslp_counting.specs.Demand.{Demand3}
+use Rattle.uslp_counting.proofs.Lost.{lost-one}
 use Rattle.uslp_counting.proofs.Witness.{craft}
 use Rattle.uslp_counting.proofs.Instance.{sender, begun, begins, two, calls, near, lost-two}
+use Rattle.uslp_counting.proofs.Mixed.{urgent, hurried}
 
 -- an answer hands one frame on at the most
 one-at-most : (K : Channel) (s : List ℕ) (o : Outcome FrameArrival) → length (handing channelOf K s o) ≤ 1
-one-at-most K s (done (New gap x)) = go (sameChannel (channelOf (x .«primary_header»)) K)
+one-at-most K s (done (New gap x)) = go (isOf channelOf K x)
   where
     go : (b : Bool) → length {A = Handing} (cond b ((gap, x, contentsIn x s) ∷ []) []) ≤ 1
     go true = omega arith
@@ -54,6 +57,15 @@ module _ (H : Hearer) (demand : Demand3 channelOf H) (room : (q : ℕ) → Unfil
       let a : m ≡ 1 = sym (made _ _ _) ∙ missing-two 2 (omega arith) (omega arith) in
       let b : m ≡ 2 = sym (made _ _ _) ∙ missing-two 3 (omega arith) (omega arith) in
       omega arith
+
+  -- one that ignores the flag, to which two frames that differ in it alone (`one-bit`) are one: by an expedited frame, of another channel
+  pub no-ignorer : Unfilled channelOf H craft begun (map (callOf sender) (arrives 0 [] ∷ hurried ∷ []))
+      → ((r : ChannelRecord) → recordOf (H r (frameAt urgent 0 ++ []) false) ≡ recordOf (H r (sent 7) false)) → ⊥
+  unfolding run places leaders aheadOf Window Close
+  no-ignorer roomy ignores =
+      let d = demand craft 1 false sender (omega arith) (omega arith) emptyRecord begun refl begins (arrives 0 [] ∷ hurried ∷ [])
+      (map (callOf sender) (arrives 0 [] ∷ hurried ∷ [])) refl (tt, tt) roomy .1 in
+      let z : _≡_ {A = ℕ} 0 6 = sym (lost-one 0) ∙ sym d ∙ ap (missingFor craft) (ignores _) ∙ missing-two 7 (omega arith) (omega arith) in omega arith
 
   -- one that calls all later arrivals REPEAT: by the frames handed on
   pub no-repeater : ((r : ChannelRecord) → answerOf (H r (sent 2) false) ≡ done Repeat) → ⊥

@@ -47,11 +47,14 @@ abbrev pub Handing : Type 0
 Handing = ℕ × TransferFrame × List ℕ
 
 -- What follows is said over how a frame names its channel, `name`: by spacecraft, number and flag as here, or in any other way.
-
--- what one hearing of the octets s hands on for the channel K
 module _ (name : Naming) where
+  -- whether a frame is of the channel K
+  abbrev pub isOf : Channel → TransferFrame → Bool
+  isOf K x = sameChannel (name (x .«primary_header»)) K
+
+  -- what one hearing of the octets s hands on for the channel K
   abbrev pub handing : Channel → List ℕ → Outcome FrameArrival → List Handing
-  handing K s (done (New gap x)) = cond (sameChannel (name (x .«primary_header»)) K) ((gap, x, contentsIn x s) ∷ []) []
+  handing K s (done (New gap x)) = cond (isOf K x) ((gap, x, contentsIn x s) ∷ []) []
   handing K s (done Repeat) = []
   handing K s (done Late) = []
   handing K s (refused k vs) = []
@@ -79,7 +82,7 @@ module _ (name : Naming) (H : Hearer) (K : Channel) where
   -- a hearing does not get TOTAL_FULL for a frame of the channel K
   abbrev pub NotFull : ChannelRecord → List ℕ → Bool → Type 0
   NotFull r s fecf =
-      (x : TransferFrame) → frameReading s fecf ≡ done x → sameChannel (name (x .«primary_header»)) K ≡ true → answerOf (H r s fecf) ≡ refused 17 [] → ⊥
+      (x : TransferFrame) → frameReading s fecf ≡ done x → isOf name K x ≡ true → answerOf (H r s fecf) ≡ refused 17 [] → ⊥
 
   unfoldable pub NoneFull : ChannelRecord → List (TransferFrame × List ℕ) → Bool → Type 0
   NoneFull r [] fecf = Unit {0}
@@ -144,8 +147,7 @@ frameAt {fecf = fecf} S p = layout fecf (S .spare p) (S .header p) (S .field p) 
 pub data Event (name : Naming) (K : Channel) (width : ℕ) : Type 0 where
   arrives : ℕ → List ℕ → Event name K width
   damaged : (s : List ℕ) (fecf : Bool) (k : ℕ) (vs : List ℕ) → frameReading s fecf ≡ refused k vs → Event name K width
-  elsewhere : (s : List ℕ) (fecf : Bool) (x : TransferFrame) → frameReading s fecf ≡ done x → sameChannel (name (x .«primary_header»)) K ≡ false
-      → Event name K width
+  elsewhere : (s : List ℕ) (fecf : Bool) (x : TransferFrame) → frameReading s fecf ≡ done x → isOf name K x ≡ false → Event name K width
   misfits : (s : List ℕ) (fecf : Bool) (x : TransferFrame) → frameReading s fecf ≡ done x → (x .«primary_header» .«vc_frame_count_len» ≡ width → ⊥)
       → Event name K width
   opened : (k : Channel) (w : ℕ) → sameChannel k K ≡ false → Event name K width

@@ -72,7 +72,7 @@ saverOf f r b = let x = f ([], tt) (r, (at b, tt)) in leaving (paperLength (x .0
 -- any program that keeps the promise of `save`
 module _ (f : Program fn-save) (keeps : Keeps fn-save f) (r : ChannelRecord) (b : List ℕ) where
   -- it answers 19 exactly if an open channel is expedited, whatever room there is, and then writes nothing
-  lacks-answer : Expedited r → saverOf f r b ≡ leaving (refused 19 []) b
+  pub lacks-answer : Expedited r → saverOf f r b ≡ leaving (refused 19 []) b
   lacks-answer x = keeps ([], tt) (r, (at b, tt)) ∙ claims.saving-lacks one r b (lacks-exactly r .1 x)
 
   pub lacks-only : {vs t : List ℕ} → saverOf f r b ≡ leaving (refused 19 vs) t → Expedited r

@@ -1,6 +1,5 @@
 -- What is asked of a record is answered alike after it was saved and restored.
 use mathlib.Core.Path.{_≡_, refl, sym, _∙_, ap}
-use mathlib.Core.Bool.{false}
 use Prim.Native.Nat.{_-_, _<_}
 use native.Mathlib.Omega.{arith}
 use native.Mathlib.Decide.{decLt}
@@ -15,7 +14,7 @@ use Rattle.uslp_record.proofs.Slots.{seek-passes}
 use Rattle.uslp_record.proofs.Calls.{showing-none, showing-done}
 use Rattle.uslp_record.proofs.Keeps.{total-fits}
 use Rattle.uslp_record.specs.Made.{Made}
-use Rattle.uslp_form.specs.Form.{Form, anyLacks, formOf, restored}
+use Rattle.uslp_form.specs.Form.{Form, Whole, formOf, restored}
 use Rattle.uslp_form.proofs.Sorted.{missed, missed-sorted}
 use Rattle.uslp_form.proofs.Trips.{unheardOf, heardOf, entriesOf, good-saved, found-again, none-again, heard-again, made-good}
 
@@ -24,7 +23,7 @@ total-made : (r : ChannelRecord) → Made r → consoleTotal r ≡ done (missing
 unfolding consoleTotal
 total-made r made = rw (total-fits r made)
 
-module _ (f : Form) (r : ChannelRecord) (made : Made r) (whole : anyLacks f (r .slots) ≡ false) where
+module _ (f : Form) (r : ChannelRecord) (made : Made r) (whole : Whole f r) where
   abbrev back : ChannelRecord
   back = restored (entriesOf f r)
 

@@ -22,7 +22,7 @@ use Rattle.uslp_record.specs.declared.SlotState.the-variants.{Closed, Opened, H
 use Rattle.uslp_record.specs.declared.ChannelRecord.{ChannelRecord}
 use Rattle.uslp_form.specs.Entries.{isOpened, isHeard}
 use Rattle.uslp_record.specs.Made.{Made}
-use Rattle.uslp_form.specs.Form.{Form, columns, row, anyLacks, rows, section, insert, sorted, form, formOf, GoodForm, restored}
+use Rattle.uslp_form.specs.Form.{Form, columns, row, anyLacks, Whole, rows, section, form, insert, sorted, formOf, GoodForm, restored}
 use Rattle.uslp_form.specs.Form.Form.{one}
 use Rattle.uslp_form.specs.Saved.{saving, Restoring}
 use Rattle.uslp_form.specs.Saved.Restoring.{good, bad}
@@ -39,7 +39,7 @@ module _ (f : Form) (r : ChannelRecord) (b : List ℕ) where
   unfolding saving
   saving-lacks e = simp e
 
-  module _ (whole : anyLacks f (r .slots) ≡ false) where
+  module _ (whole : Whole f r) where
     pub saving-done : length (formOf f r) ≤ length b → saving f r b ≡ leaving (done (length (formOf f r))) (formOf f r ++ drop (length (formOf f r)) b)
     unfolding saving
     saving-done h = simp (whole, le-ltb (length b) (length (formOf f r)) h)
@@ -50,7 +50,7 @@ module _ (f : Form) (r : ChannelRecord) (b : List ℕ) where
 
   -- a saving that is done: the form lacks no flag, and what it leaves is the form with the octets behind it
   pub record Saves (n : ℕ) (t : List ℕ) : Type 0 where
-    pub whole : anyLacks f (r .slots) ≡ false
+    pub whole : Whole f r
     pub count : n ≡ length (formOf f r)
     pub left : t ≡ formOf f r ++ drop (length (formOf f r)) b
 
@@ -101,7 +101,7 @@ module _ (f : Form) (r : ChannelRecord) (s : List ℕ) where
   saves-same {q} h b room =
       let d = restores-done f h in
       let e : formOf f q ≡ s = ap (formOf f) (sym (d .is)) ∙ saved-again f s (d .unheard) (d .heard) (d .is-good) in
-      let w : anyLacks f (q .slots) ≡ false =
+      let w : Whole f q =
       ap (λ (x : ChannelRecord). anyLacks f (x .slots)) (sym (d .is)) ∙ whole-good f s (d .unheard) (d .heard) (d .is-good) in
       saving-done f q b w (omega (arith, ap length e, room)) ∙ ap (λ (l : List ℕ). leaving (done (length l)) (l ++ drop (length l) b)) e
 
@@ -112,7 +112,7 @@ pub record Back (f : Form) (r q : ChannelRecord) : Type 0 where
   pub total : consoleTotal q ≡ consoleTotal r
   pub again : formOf f q ≡ formOf f r
 
-module _ (f : Form) (r : ChannelRecord) (made : Made r) (whole : anyLacks f (r .slots) ≡ false) (found : ChannelRecord) where
+module _ (f : Form) (r : ChannelRecord) (made : Made r) (whole : Whole f r) (found : ChannelRecord) where
   pub restores-saved : Restoring f found (formOf f r) (keeping (done tt) (restored (entriesOf f r)))
   restores-saved = good (unheardOf f r) (heardOf f r) (good-saved f r made whole)
 

@@ -3,10 +3,9 @@ use mathlib.Core.Path.{_≡_, refl, sym, _∙_, ap}
 use mathlib.Core.Logic.{_↔_}
 use mathlib.Core.Bool.{Bool, true, false, _||_}
 use mathlib.Core.List.{List, [], _∷_}
-use Prim.Native.Nat.{ℕ, zero, suc, _<_}
-use native.Mathlib.Omega.{arith}
+use Prim.Native.Nat.{ℕ, zero, suc}
 use lib.Dec.{eqb}
-use lib.ListN.{length, getD, set}
+use lib.ListN.{getD, set}
 use Rattle.uslp_kinds.specs.Kinds.{bypassNumber}
 use Rattle.uslp_kinds.specs.declared.BypassSequenceControlFlag.{BypassSequenceControlFlag}
 use Rattle.uslp_kinds.specs.declared.BypassSequenceControlFlag.the-variants.{SequenceControlledQoS, ExpeditedQoS}
@@ -18,7 +17,7 @@ use Rattle.uslp_record.specs.declared.Slot.{Slot}
 use Rattle.uslp_record.specs.declared.ChannelRecord.{ChannelRecord}
 use Rattle.uslp_record.proofs.Slots.{true-false, same-self, same-one}
 use Rattle.uslp_form.specs.Entries.{Each}
-use Rattle.uslp_form.specs.Form.{Form, lacksFlag, entryLacks, anyLacks}
+use Rattle.uslp_form.specs.Form.{Form, lacksFlag, entryLacks, anyLacks, EntryWhole}
 use Rattle.uslp_form.specs.Form.Form.{one}
 use Rattle.uslp_form.proofs.Each.{statesIn}
 
@@ -42,18 +41,18 @@ sequence-one k e =
 
 -- what the form does not lack of slots, it does not lack of each
 module _ (f : Form) where
-  pub none-lacks : (l : List Slot) → anyLacks f l ≡ false → Each (λ (x : SlotState). entryLacks f x ≡ false) (statesIn l)
+  pub none-lacks : (l : List Slot) → anyLacks f l ≡ false → Each (EntryWhole f) (statesIn l)
   unfolding anyLacks
   none-lacks [] e = tt
   none-lacks (x ∷ l) e = go (entryLacks f (x .state)) refl e (λ g. none-lacks l g)
     where
       go : (b : Bool) → entryLacks f (x .state) ≡ b → (b || anyLacks f l) ≡ false
-          → (anyLacks f l ≡ false → Each (λ (y : SlotState). entryLacks f y ≡ false) (statesIn l))
-          → Each (λ (y : SlotState). entryLacks f y ≡ false) (statesIn (x ∷ l))
+          → (anyLacks f l ≡ false → Each (EntryWhole f) (statesIn l))
+          → Each (EntryWhole f) (statesIn (x ∷ l))
       go true d g ih = absurd (true-false refl g)
       go false d g ih = (d, ih g)
 
-  pub lacks-none : (l : List Slot) → Each (λ (x : SlotState). entryLacks f x ≡ false) (statesIn l) → anyLacks f l ≡ false
+  pub lacks-none : (l : List Slot) → Each (EntryWhole f) (statesIn l) → anyLacks f l ≡ false
   unfolding anyLacks
   lacks-none [] e = refl
   lacks-none (x ∷ l) e = rw (e .0) (lacks-none l (e .1))
@@ -62,8 +61,8 @@ module _ (f : Form) where
   pub lacks-set : (l : List Slot) (i : ℕ) (y : Slot) → anyLacks f l ≡ false → entryLacks f (y .state) ≡ false → anyLacks f (set l i y) ≡ false
   lacks-set l i y e d = lacks-none (set l i y) (go l i (none-lacks l e))
     where
-      go : (m : List Slot) (j : ℕ) → Each (λ (x : SlotState). entryLacks f x ≡ false) (statesIn m)
-          → Each (λ (x : SlotState). entryLacks f x ≡ false) (statesIn (set m j y))
+      go : (m : List Slot) (j : ℕ) → Each (EntryWhole f) (statesIn m)
+          → Each (EntryWhole f) (statesIn (set m j y))
       go [] j a = tt
       go (x ∷ m) zero a = (d, a .1)
       go (x ∷ m) (suc j) a = (a .0, go m j (a .1))
@@ -71,7 +70,6 @@ module _ (f : Form) where
   -- an entry that lacks it, at a place
   pub record LacksAt (l : List Slot) : Type 0 where
     pub at : ℕ
-    pub within : at < length l
     pub lacks : entryLacks f (getD l at (slotOf Closed) .state) ≡ true
 
   any-lacks : (l : List Slot) → anyLacks f l ≡ true → LacksAt l
@@ -80,14 +78,14 @@ module _ (f : Form) where
   any-lacks (x ∷ l) e = go (entryLacks f (x .state)) refl e (λ g. any-lacks l g)
     where
       go : (b : Bool) → entryLacks f (x .state) ≡ b → (b || anyLacks f l) ≡ true → (anyLacks f l ≡ true → LacksAt l) → LacksAt (x ∷ l)
-      go true d g ih = record { at = 0; within = omega arith; lacks = d }
-      go false d g ih = let h = ih g in record { at = suc (h .at); within = omega (arith, h .within); lacks = h .lacks }
+      go true d g ih = record { at = 0; lacks = d }
+      go false d g ih = let h = ih g in record { at = suc (h .at); lacks = h .lacks }
 
-  at-lacks : (l : List Slot) (i : ℕ) → i < length l → entryLacks f (getD l i (slotOf Closed) .state) ≡ true → anyLacks f l ≡ true
+  at-lacks : (l : List Slot) (i : ℕ) → entryLacks f (getD l i (slotOf Closed) .state) ≡ true → anyLacks f l ≡ true
   unfolding anyLacks
-  at-lacks [] i h e = absurd (omega arith)
-  at-lacks (x ∷ l) zero h e = rw e
-  at-lacks (x ∷ l) (suc i) h e = go (entryLacks f (x .state)) (at-lacks l i (omega arith) e)
+  at-lacks [] i e = absurd (true-false e refl)
+  at-lacks (x ∷ l) zero e = rw e
+  at-lacks (x ∷ l) (suc i) e = go (entryLacks f (x .state)) (at-lacks l i e)
     where
       go : (b : Bool) → anyLacks f l ≡ true → (b || anyLacks f l) ≡ true
       go true g = refl
@@ -96,27 +94,24 @@ module _ (f : Form) where
 -- an open channel is expedited
 pub record Expedited (r : ChannelRecord) : Type 0 where
   pub at : ℕ
-  pub within : at < length (r .slots)
   pub channel : Channel
   pub holds : stateHolds channel (stateAt r at) ≡ true
   pub expedited : channel .«sequence_control_flag» ≡ ExpeditedQoS
 
 -- form 1 lacks a flag exactly then
 pub lacks-exactly : (r : ChannelRecord) → (anyLacks one (r .slots) ≡ true) ↔ Expedited r
-lacks-exactly r = (λ e. let h = any-lacks one (r .slots) e in there (h .at) (h .within) (stateAt r (h .at)) refl (h .lacks), back)
+lacks-exactly r = (λ e. let h = any-lacks one (r .slots) e in there (h .at) (stateAt r (h .at)) refl (h .lacks), back)
   where
-    there : (i : ℕ) → i < length (r .slots) → (t : SlotState) → stateAt r i ≡ t → entryLacks one t ≡ true → Expedited r
-    there i low Closed e d = absurd (true-false d refl)
-    there i low (Opened k w) e d = record {
+    there : (i : ℕ) (t : SlotState) → stateAt r i ≡ t → entryLacks one t ≡ true → Expedited r
+    there i Closed e d = absurd (true-false d refl)
+    there i (Opened k w) e d = record {
       at = i;
-      within = low;
       channel = k;
       holds = ap (stateHolds k) e ∙ same-self k;
       expedited = is-expedited (k .«sequence_control_flag») d;
     }
-    there i low (Heard k w t) e d = record {
+    there i (Heard k w t) e d = record {
       at = i;
-      within = low;
       channel = k;
       holds = ap (stateHolds k) e ∙ same-self k;
       expedited = is-expedited (k .«sequence_control_flag») d;
@@ -128,4 +123,4 @@ lacks-exactly r = (λ e. let h = any-lacks one (r .slots) e in there (h .at) (h 
     open-lacks k (Heard c w t) h e = ap (lacksFlag one) (same-one c k h) ∙ ap (λ (x : BypassSequenceControlFlag). eqb (bypassNumber x) 1) e
 
     back : Expedited r → anyLacks one (r .slots) ≡ true
-    back x = at-lacks one (r .slots) (x .at) (x .within) (open-lacks (x .channel) (stateAt r (x .at)) (x .holds) (x .expedited))
+    back x = at-lacks one (r .slots) (x .at) (open-lacks (x .channel) (stateAt r (x .at)) (x .holds) (x .expedited))

@@ -18,7 +18,7 @@ use Rattle.uslp_record.specs.declared.ChannelRecord.{ChannelRecord}
 use Rattle.uslp_record.proofs.Count.{counts-le}
 use Rattle.uslp_form.specs.Entries.{Each, isOpened, isHeard}
 use Rattle.uslp_record.specs.Made.{Openable, Sound}
-use Rattle.uslp_form.specs.Form.{Form, columns, lacksFlag, totalsRow, row, entryLacks, rows, section, form, GoodForm, restored}
+use Rattle.uslp_form.specs.Form.{Form, columns, lacksFlag, totalsRow, row, EntryWhole, rows, section, form, GoodForm, restored}
 use Rattle.uslp_form.specs.Form.Form.{one}
 use Rattle.uslp_form.specs.Saved.{Restoring}
 use Rattle.uslp_form.specs.Saved.Restoring.{good, bad}
@@ -39,7 +39,7 @@ module _ (fs gs : List Field) (n : ℕ) (a : bitsIn fs ≡ 8 * n) (b : bitsIn gs
 
 -- an entry whose numbers fit its columns, and whose flag the form does not lack: its row gives it back
 abbrev Rowed : Form → SlotState → Type 0
-Rowed f x = Fits (row f x) × (entryLacks f x ≡ false)
+Rowed f x = Fits (row f x) × EntryWhole f x
 
 -- the flags of channels that form 1 does not lack
 flag-one : (k c : Channel) → lacksFlag one k ≡ false → lacksFlag one c ≡ false → k .«sequence_control_flag» ≡ c .«sequence_control_flag»
@@ -156,7 +156,7 @@ module _ (f : Form) where
 
   good-rowed : {s : List ℕ} {us hs : List SlotState} → GoodForm f s us hs → Each (Rowed f) (us ++ hs)
   good-rowed {us} {hs} g =
-      each-both Sound (λ (x : SlotState). entryLacks f x ≡ false) (Rowed f) (λ x s e. (sound-fits x s, e)) (us ++ hs) (g .sound) (g .flags)
+      each-both Sound (EntryWhole f) (Rowed f) (λ x s e. (sound-fits x s, e)) (us ++ hs) (g .sound) (g .flags)
 
   pub good-unheard : {s : List ℕ} {us hs : List SlotState} → GoodForm f s us hs → Each (Entry isOpened) us
   good-unheard {us} {hs} g = good-entries isOpened us (g .unheard) (each-left (Rowed f) us hs (good-rowed g))

@@ -1,5 +1,4 @@
 -- Round trips: what a saving wrote is a good form and gives back every channel; what was restored is saved as the same octets.
---
 use mathlib.Core.Path.{_≡_, refl, sym, _∙_, ap, ap₂}
 use mathlib.Core.Bool.{Bool, true, false}
 use mathlib.Core.List.{List, _++_, map, map-append, append-assoc}
@@ -14,7 +13,7 @@ use Rattle.uslp_record.specs.declared.Slot.{Slot}
 use Rattle.uslp_record.specs.declared.ChannelRecord.{ChannelRecord}
 use Rattle.uslp_record.specs.Made.{Sound, Made}
 use Rattle.uslp_form.specs.Entries.{Each, Once, isOpened, isHeard}
-use Rattle.uslp_form.specs.Form.{Form, entryLacks, anyLacks, sorted, form, formOf, GoodForm, restored}
+use Rattle.uslp_form.specs.Form.{Form, EntryWhole, Whole, form, sorted, formOf, GoodForm, restored}
 use Rattle.uslp_record.proofs.Slots.{true-false}
 use Rattle.uslp_form.proofs.Each.{statesIn, each-append, each-from, each-map, each-both, Has, has-left, has-right, once-append, once-from}
 use Rattle.uslp_form.proofs.Flags.{none-lacks, lacks-none}
@@ -32,17 +31,17 @@ module _ (f : Form) (r : ChannelRecord) where
   abbrev pub entriesOf : List SlotState
   entriesOf = unheardOf ++ heardOf
 
-  all-entries : (P : SlotState → Type 0) → Each P (statesIn (r .slots)) → Each P entriesOf
+  pub all-entries : (P : SlotState → Type 0) → Each P (statesIn (r .slots)) → Each P entriesOf
   all-entries P e = each-append P unheardOf heardOf (sorted-all f isOpened P (r .slots) e) (sorted-all f isHeard P (r .slots) e)
 
   -- calls made it, and the form lacks no flag of its open channels
-  module _ (made : Made r) (whole : anyLacks f (r .slots) ≡ false) where
+  module _ (made : Made r) (whole : Whole f r) where
     states-sound : Each Sound (statesIn (r .slots))
     states-sound = each-from Sound (r .slots) (λ j h. made .sound j)
 
     states-savable : Each (Savable f) (statesIn (r .slots))
     states-savable =
-        each-both Sound (λ (x : SlotState). entryLacks f x ≡ false) (Savable f) (λ x s e. (s, e)) (statesIn (r .slots)) states-sound
+        each-both Sound (EntryWhole f) (Savable f) (λ x s e. (s, e)) (statesIn (r .slots)) states-sound
         (none-lacks f (r .slots) whole)
 
     states-once : Once (statesIn (r .slots))
@@ -59,7 +58,7 @@ module _ (f : Form) (r : ChannelRecord) where
           (each-from (λ (x : SlotState). isOpened x ≡ true → isOpened x ≡ true) (r .slots) (λ j h e. e));
       heard = sorted-each f isHeard (λ (x : SlotState). isHeard x ≡ true) (r .slots)
           (each-from (λ (x : SlotState). isHeard x ≡ true → isHeard x ≡ true) (r .slots) (λ j h e. e));
-      flags = all-entries (λ (x : SlotState). entryLacks f x ≡ false) (none-lacks f (r .slots) whole);
+      flags = all-entries (EntryWhole f) (none-lacks f (r .slots) whole);
       sound = all-entries Sound states-sound;
       first = sorted-ascends f isOpened (Savable f) (r .slots) states-once states-savable (λ x y a b. open-rank f x y (opened-open x a) (opened-open y b));
       second = sorted-ascends f isHeard (Savable f) (r .slots) states-once states-savable (λ x y a b. open-rank f x y (heard-open x a) (heard-open y b));
@@ -130,9 +129,9 @@ module _ (f : Form) (s : List ℕ) (us hs : List SlotState) (good : GoodForm f s
   saved-again = ap₂ (form f) unheard-again heard-again ∙ sym (good .octets)
 
   -- the form lacks no flag of what it gives
-  pub whole-good : anyLacks f (restored (us ++ hs) .slots) ≡ false
+  pub whole-good : Whole f (restored (us ++ hs))
   whole-good =
-      lacks-none f (restored (us ++ hs) .slots) (each-restored (us ++ hs) (good .few) (λ (x : SlotState). entryLacks f x ≡ false) refl (good .flags))
+      lacks-none f (restored (us ++ hs) .slots) (each-restored (us ++ hs) (good .few) (EntryWhole f) refl (good .flags))
 
   pub made-good : Made (restored (us ++ hs))
   made-good = made-restored (us ++ hs) (good .few) (good .sound) (good .once)

@@ -50,7 +50,7 @@ module _ (f : Form) where
   rank (Opened k width) = valueOf (columns f k)
   rank (Heard k width totals) = valueOf (columns f k)
 
-  -- an entry, and an open channel of a record, whose flag the form lacks
+  -- it lacks the flag of an entry, of an open channel among slots
   abbrev pub entryLacks : SlotState → Bool
   entryLacks Closed = false
   entryLacks (Opened k width) = lacksFlag f k
@@ -59,6 +59,13 @@ module _ (f : Form) where
   unfoldable pub anyLacks : List Slot → Bool
   anyLacks [] = false
   anyLacks (x ∷ l) = entryLacks (x .state) || anyLacks l
+
+  -- it says the channel of an entry whole, and those that are open in a record
+  abbrev pub EntryWhole : SlotState → Type 0
+  EntryWhole x = entryLacks x ≡ false
+
+  abbrev pub Whole : ChannelRecord → Type 0
+  Whole r = anyLacks (r .slots) ≡ false
 
   unfoldable pub rows : List SlotState → List ℕ
   rows [] = []
@@ -97,7 +104,7 @@ module _ (f : Form) where
     pub octets : s ≡ form us hs
     pub unheard : Each (λ (x : SlotState). isOpened x ≡ true) us
     pub heard : Each (λ (x : SlotState). isHeard x ≡ true) hs
-    pub flags : Each (λ (x : SlotState). entryLacks x ≡ false) (us ++ hs)
+    pub flags : Each EntryWhole (us ++ hs)
     pub sound : Each Sound (us ++ hs)
     pub first : Ascending us
     pub second : Ascending hs

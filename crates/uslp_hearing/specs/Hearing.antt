@@ -63,6 +63,7 @@ module _ (name : Naming) where
   abbrev pub hearingBy : ChannelRecord → List ℕ → Bool → Kept FrameArrival
   hearingBy r s fecf = taken r (judgingBy r s fecf)
 
+-- the case here, which the promises cite
 abbrev pub judgedFrame : ChannelRecord → TransferFrame → Outcome (FrameArrival × Change)
 judgedFrame = judgedBy channelOf
 

@@ -1,6 +1,6 @@
 -- Whether octets are a good form is told by the entries that are read.
 use mathlib.Core.Path.{_≡_, sym, subst}
-use mathlib.Core.Bool.{true, false}
+use mathlib.Core.Bool.{true}
 use mathlib.Core.List.{List, [], _++_}
 use Prim.Native.Nat.{ℕ, _+_}
 use native.Mathlib.Omega.{arith}
@@ -11,7 +11,7 @@ use Rattle.uslp_record.specs.Record.{keeping}
 use Rattle.uslp_record.specs.declared.SlotState.{SlotState}
 use Rattle.uslp_record.specs.declared.ChannelRecord.{ChannelRecord}
 use Rattle.uslp_form.specs.Entries.{isOpened, isHeard}
-use Rattle.uslp_form.specs.Form.{Form, entryLacks, GoodForm, restored}
+use Rattle.uslp_form.specs.Form.{Form, EntryWhole, GoodForm, restored}
 use Rattle.uslp_form.specs.Saved.{Restoring}
 use Rattle.uslp_form.specs.Saved.Restoring.{good, bad}
 use Rattle.uslp_form.proofs.Each.{each-append, each-map}
@@ -46,9 +46,9 @@ module _ (f : Form) (s : List ℕ) where
         octets = form-read f s oct (shape .long);
         unheard = each-map (Entry f isOpened) (λ (x : SlotState). isOpened x ≡ true) (λ x e. e .0) us u;
         heard = each-map (Entry f isHeard) (λ (x : SlotState). isHeard x ≡ true) (λ x e. e .0) hs h;
-        flags = each-append (λ (x : SlotState). entryLacks f x ≡ false) us hs
-            (each-map (Entry f isOpened) (λ (x : SlotState). entryLacks f x ≡ false) (λ x e. e .1 .1) us u)
-            (each-map (Entry f isHeard) (λ (x : SlotState). entryLacks f x ≡ false) (λ x e. e .1 .1) hs h);
+        flags = each-append (EntryWhole f) us hs
+            (each-map (Entry f isOpened) (EntryWhole f) (λ x e. e .1 .1) us u)
+            (each-map (Entry f isHeard) (EntryWhole f) (λ x e. e .1 .1) hs h);
         sound = a .0;
         first = a .1;
         second = a .2;

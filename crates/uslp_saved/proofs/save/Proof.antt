@@ -1,12 +1,11 @@
 -- A flag that the form lacks is refused; else both sections are put, and copied where there is room.
 use borrow.Author.Needs.{needs}
 use mathlib.Core.Path.{_≡_, sym, _∙_, ap}
-use mathlib.Core.Bool.{false}
 use Prim.Native.Nat.{ℕ, _-_}
 use native.Mathlib.Nat.{sub-zero}
 use native.Mathlib.Omega.{arith}
 use lib.ListN.{length, take}
-use Rattle.uslp_form.specs.Form.{anyLacks, formOf}
+use Rattle.uslp_form.specs.Form.{Whole, formOf}
 use Rattle.uslp_form.specs.Form.Form.{one}
 use Rattle.uslp_form.proofs.Claims.{saving-lacks}
 use Rattle.uslp_saved.specs.Choice.{written}
@@ -18,7 +17,7 @@ use Rattle.uslp_saved.proofs.save.Tie as tie
 -- the form lacks no flag, and both sections stand in what was put
 put-all : (p : tie.After-put-section2) → let o = p .put-section2 .result in
     let r = p .before .before .before .before .before .before .args .channels in
-    (anyLacks one (r .slots) ≡ false) × (o .len ≡ length (formOf one r)) × (written o ≡ formOf one r)
+    Whole one r × (o .len ≡ length (formOf one r)) × (written o ≡ formOf one r)
 put-all p =
     let l = p .before .before .before in
     let r = l .before .before .before .args .channels in
