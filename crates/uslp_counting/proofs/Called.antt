@@ -3,7 +3,7 @@ use mathlib.Core.Path.{_≡_, refl, sym, subst}
 use mathlib.Core.Bool.{Bool}
 use mathlib.Core.List.{List, [], _∷_, _++_, map}
 use Prim.Native.Nat.{ℕ, _≤_}
-use lib.ListN.{length, drop}
+use lib.ListN.{length, drop, replicate}
 use lib.Seq.{take-append-seam}
 use Rattle.uslp_kinds.specs.Outcome.{done, leaving}
 use Rattle.uslp_record.specs.Slots.{stateAt, emptyRecord}
@@ -13,11 +13,12 @@ use Rattle.uslp_record.specs.declared.Channel.{Channel}
 use Rattle.uslp_record.specs.declared.ChannelRecord.{ChannelRecord}
 use Rattle.uslp_record.proofs.Keeps.{made-empty, made-opening, made-closing}
 use Rattle.uslp_form.specs.Form.{Form, Whole, formOf, restored}
+use Rattle.uslp_form.specs.Form.Form.{one}
 use Rattle.uslp_form.specs.Saved.{saving, Restoring}
 use Rattle.uslp_form.specs.Saved.Restoring.{good, bad}
 use Rattle.uslp_form.proofs.Trips.{entriesOf, made-good}
 use Rattle.uslp_form.proofs.Rows.{sound-fits, restores-done, restores-refused}
-use Rattle.uslp_form.proofs.Claims.{saving-done, Back, restores-saved, comes-back}
+use Rattle.uslp_form.proofs.Claims.{saving-done, Back, restores-saved, comes-back, form-long}
 use Rattle.uslp_reader.specs.EndToEnd.{cut}
 use Rattle.uslp_reader.specs.declared.TransferFrame.{TransferFrame}
 use Rattle.uslp_hearing.specs.Hearing.{channelOf, frameHearing}
@@ -138,6 +139,11 @@ module _ {f : Form} {m : ChannelRecord} {s : List ℕ} (made : Made m) (w : Wrot
 
   pub restarts-made : Restart m (restored (entriesOf f m))
   restarts-made = resumes f (λ i. sound-fits f (stateAt m i) (made .sound i)) w restores-wrote
+
+-- saved by form 1 into 354 octets, which is room for any, and restored where no channel is open
+pub restarts-one : (m : ChannelRecord) → Made m → Whole one m → Restart m (restored (entriesOf one m))
+restarts-one m made whole =
+    restarts-made made (made-back made one whole (replicate 354 0) (form-long m (made .eight)) emptyRecord .wrote) emptyRecord
 
 module _ {K : Channel} {width : ℕ} {fecf : Bool} (S : Sender channelOf K width fecf) where
   -- a restart at the end of a run

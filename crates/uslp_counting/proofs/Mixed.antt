@@ -6,7 +6,7 @@ use mathlib.Core.List.{List, [], _∷_, _++_}
 use Prim.Native.Nat.{ℕ, _-_, _<_}
 use native.Mathlib.Omega.{arith}
 use lib.Dec.{lit<}
-use lib.ListN.{set, replicate}
+use lib.ListN.{set}
 use Rattle.uslp_octets.specs.Octets.{AreOctets}
 use Rattle.uslp_octets.proofs.Laws.{are-append}
 use Rattle.uslp_kinds.specs.Outcome.{done}
@@ -27,17 +27,16 @@ use Rattle.uslp_record.specs.declared.ChannelRecord.{ChannelRecord}
 use Rattle.uslp_form.specs.Form.{anyLacks, Whole, insert, sorted, restored}
 use Rattle.uslp_form.specs.Form.Form.{one}
 use Rattle.uslp_form.proofs.Trips.{entriesOf}
-use Rattle.uslp_form.proofs.Claims.{form-long}
 use Rattle.uslp_hearing.specs.Hearing.{channelOf, hearingBy, frameHearing}
 use Rattle.uslp_counting.specs.Places.{lost}
 use Rattle.uslp_counting.specs.History.{Hearer, Call, recordOf, isOf, called, Roomy, run, handed, missingFor, Sender, frameAt, Event, handingAt, places}
 use Rattle.uslp_counting.specs.History.Call.{hears}
 use Rattle.uslp_counting.specs.History.Event.{arrives, elsewhere}
-use Rattle.uslp_counting.specs.Restarts.{Restart, Leads}
+use Rattle.uslp_counting.specs.Restarts.{Leads}
 use Rattle.uslp_counting.specs.Restarts.Leads.{ends, next}
 use Rattle.uslp_counting.specs.Updated.{unflagged, Demand3Updated}
 use Rattle.uslp_counting.proofs.Arrival.{sentAt, reads}
-use Rattle.uslp_counting.proofs.Called.{made-back, restarts-made}
+use Rattle.uslp_counting.proofs.Called.{restarts-one}
 use Rattle.uslp_counting.proofs.Updated.{updated, made-before}
 use Rattle.uslp_counting.proofs.Witness.{craft, craftBy, oven}
 use Rattle.uslp_counting.proofs.Instance.{sender, are-oven, begun, begins, near, lost-two}
@@ -126,10 +125,6 @@ made-begun = subst Made (ap recordOf begins) (made-opening emptyRecord made-empt
 abbrev back : ChannelRecord → ChannelRecord
 back m = restored (entriesOf one m)
 
-restarts : (m : ChannelRecord) → Made m → Whole one m → Restart m (back m)
-restarts m made whole =
-    restarts-made made (made-back made one whole (replicate 354 0) (form-long m (made .eight)) emptyRecord .wrote) emptyRecord
-
 whole-first : Whole one first
 unfolding oven frameReading headerReading fieldReading judging find anyLacks
 whole-first = refl
@@ -152,7 +147,7 @@ pub one-missing-updated : missingFor craft after ≡ 1
 unfolding places
 one-missing-updated =
     updated craft refl 1 false sender (omega arith) (omega arith) emptyRecord begun refl begins (arrives 0 [] ∷ []) _ first led-first (tt, tt) (back first)
-    (restarts first (made-before sender led-first made-begun (are-heard SequenceControlledQoS 0, tt)) whole-first)
+    (restarts-one first (made-before sender led-first made-begun (are-heard SequenceControlledQoS 0, tt)) whole-first)
     (hurried ∷ arrives 2 [] ∷ []) _ after led-on (near 2 (omega arith)) .1
     ∙ lost-two 2 (omega arith)
 
@@ -173,7 +168,7 @@ unfolding places
 not-without demand =
     let made = made-before sender led-misled made-begun (are-heard SequenceControlledQoS 0, (are-heard ExpeditedQoS 7, tt)) in
     let d = demand craft refl 1 false sender (omega arith) (omega arith) emptyRecord begun refl begins (arrives 0 [] ∷ hurried ∷ [])
-    (handingAt sender 0 0 ∷ []) misled led-misled (tt, (tt, tt)) (back misled) (restarts misled made whole-misled) (arrives 1 [] ∷ []) [] wronged led-wrong
+    (handingAt sender 0 0 ∷ []) misled led-misled (tt, (tt, tt)) (back misled) (restarts-one misled made whole-misled) (arrives 1 [] ∷ []) [] wronged led-wrong
     (near 1 (omega arith)) in
     let z : _≡_ {A = ℕ} 6 0 = sym six-missing ∙ d .1 ∙ lost-two 1 (omega arith) in
     omega arith

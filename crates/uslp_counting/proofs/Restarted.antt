@@ -4,7 +4,6 @@ use mathlib.Core.Bool.{false}
 use mathlib.Core.List.{[], _∷_, _++_}
 use native.Mathlib.Omega.{arith}
 use lib.Dec.{lit<}
-use lib.ListN.{replicate}
 use Rattle.uslp_octets.proofs.Laws.{are-append}
 use Rattle.uslp_kinds.proofs.Outcomes.{not-done}
 use Rattle.uslp_primary_header.specs.Header.{headerReading}
@@ -16,7 +15,6 @@ use Rattle.uslp_record.specs.declared.ChannelRecord.{ChannelRecord}
 use Rattle.uslp_form.specs.Form.{anyLacks, Whole, insert, sorted, restored}
 use Rattle.uslp_form.specs.Form.Form.{one}
 use Rattle.uslp_form.proofs.Trips.{entriesOf}
-use Rattle.uslp_form.proofs.Claims.{form-long}
 use Rattle.uslp_hearing.specs.Hearing.{channelOf, frameHearing}
 use Rattle.uslp_counting.specs.History.{recordOf, called, Roomy, missingFor, frameAt, callOf, handingAt}
 use Rattle.uslp_counting.specs.History.Event.{arrives}
@@ -24,7 +22,7 @@ use Rattle.uslp_counting.specs.Restarts.{Restart, Leads, Called}
 use Rattle.uslp_counting.specs.Restarts.Leads.{ends, next, restart}
 use Rattle.uslp_counting.specs.Restarts.Called.{new, opens, hears}
 use Rattle.uslp_counting.proofs.Theorem.{counted-over}
-use Rattle.uslp_counting.proofs.Called.{made-called, called-back, restarts-made}
+use Rattle.uslp_counting.proofs.Called.{made-called, restarts-one}
 use Rattle.uslp_counting.proofs.Witness.{craft, oven}
 use Rattle.uslp_counting.proofs.Instance.{sender, are-sent, begun, begins, two, near, lost-two}
 
@@ -47,11 +45,8 @@ whole-heard : Whole one heard
 unfolding oven frameReading headerReading fieldReading judging find anyLacks
 whole-heard = refl
 
--- saved into 354 octets, and restored where no channel is open
 pub restarts : Restart heard back
-restarts =
-    let room = form-long heard (made-called called-heard .eight) in
-    restarts-made (made-called called-heard) (called-back called-heard one whole-heard (replicate 354 0) room emptyRecord .wrote) emptyRecord
+restarts = restarts-one heard (made-called called-heard) whole-heard
 
 first-room : Roomy channelOf frameHearing craft begun (callOf sender (arrives 0 []))
 unfolding oven frameReading headerReading fieldReading judging find

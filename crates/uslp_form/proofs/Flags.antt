@@ -17,7 +17,7 @@ use Rattle.uslp_record.specs.declared.Slot.{Slot}
 use Rattle.uslp_record.specs.declared.ChannelRecord.{ChannelRecord}
 use Rattle.uslp_record.proofs.Slots.{true-false, same-self, same-one}
 use Rattle.uslp_form.specs.Entries.{Each}
-use Rattle.uslp_form.specs.Form.{Form, lacksFlag, entryLacks, anyLacks, EntryWhole}
+use Rattle.uslp_form.specs.Form.{Form, lacksFlag, entryLacks, anyLacks, EntryWhole, Whole}
 use Rattle.uslp_form.specs.Form.Form.{one}
 use Rattle.uslp_form.proofs.Each.{statesIn}
 
@@ -124,3 +124,11 @@ lacks-exactly r = (λ e. let h = any-lacks one (r .slots) e in there (h .at) (st
 
     back : Expedited r → anyLacks one (r .slots) ≡ true
     back x = at-lacks one (r .slots) (x .at) (open-lacks (x .channel) (stateAt r (x .at)) (x .holds) (x .expedited))
+
+-- and says all open channels whole exactly if none is expedited
+pub whole-exactly : (r : ChannelRecord) → Whole one r ↔ (Expedited r → ⊥)
+whole-exactly r = (λ whole x. true-false (lacks-exactly r .1 x) whole, λ none. go none (anyLacks one (r .slots)) refl)
+  where
+    go : (Expedited r → ⊥) → (b : Bool) → anyLacks one (r .slots) ≡ b → b ≡ false
+    go none true e = absurd (none (lacks-exactly r .0 e))
+    go none false e = refl
