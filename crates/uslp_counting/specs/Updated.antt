@@ -26,7 +26,7 @@ unflagged h =
 abbrev pub Sequenced : Channel → TransferFrame → Type 0
 Sequenced K x = isOf unflagged K x ≡ true → x .«primary_header» .«sequence_control_flag» ≡ SequenceControlledQoS
 
--- an event in which no other is heard; the sender's own frames are of K
+-- an event in which no expedited frame of that number is heard; the sender's own frames are of K, and so sequence-controlled
 abbrev pub NoExpedited : (K : Channel) (width : ℕ) → Event channelOf K width → Type 0
 NoExpedited K width (arrives p behind) = Unit {0}
 NoExpedited K width (damaged s f k vs e) = Unit {0}
