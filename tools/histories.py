@@ -1,8 +1,8 @@
 #!/usr/bin/env python3
 """Tries demand 3 from outside: random senders, most with sequence-controlled and expedited frames numbered apart, a link that loses,
 repeats, reorders and damages frames of several channels within the window, frames heard one at a time or several end to end, restarts
-of the console, and a count of its own, over the places sent, of what was never handed on. Every answer of the program is compared, and
-every octet that it saves.
+of the console from form 1, form 2, what one was converted to, or there and back again, and a count of its own, over the places sent, of
+what was never handed on. Every answer of the program is compared, and every octet that it saves or converts.
 
 Usage: histories.py PROGRAM [HISTORIES [FRAMES [SEED]]]     (PROGRAM is what runs uslp_run, as 'tools/run uslp_run'; default 100, 1000)
        histories.py --write DIR PROGRAM HISTORIES FRAMES SEED    writes the commands and the program's answers to DIR/stdin, DIR/stdout
@@ -13,6 +13,11 @@ import subprocess
 import sys
 
 from reading import reading
+
+SAVE = {1: "save", 2: "save2"}
+RESTORE = {1: "restore", 2: "restore2"}
+CONVERT = {1: "up", 2: "down"}
+LONGEST = {1: 354, 2: 362}
 
 
 def checksum(octets):
@@ -117,48 +122,48 @@ class Sender:
             return f"0 {self.width} unheard"
         return f"0 {self.width} " + " ".join(map(str, self.totals()))
 
-    def entry(self):
-        octets = self.key[0].to_bytes(2, "big") + bytes([self.key[1], self.width])
-        return octets if self.first is None else octets + b"".join(n.to_bytes(8, "big") for n in self.totals())
+    def entry(self, n):
+        octets = self.key[0].to_bytes(2, "big") + bytes([*self.key[1:1 + n], self.width])
+        return octets if self.first is None else octets + b"".join(t.to_bytes(8, "big") for t in self.totals())
 
 
-def form(opened):
-    """The open channels as octets of form 1, which has the sequence-controlled ones alone."""
-    senders = [opened[key] for key in sorted(opened) if key[2] == 0]
-    sections = [[s.entry() for s in senders if s.first is None], [s.entry() for s in senders if s.first is not None]]
+def form(opened, n):
+    """The open channels as octets of form n; form 1 has the sequence-controlled ones alone."""
+    senders = [opened[key] for key in sorted(opened) if key[2] < n]
+    sections = [[s.entry(n) for s in senders if s.first is None], [s.entry(n) for s in senders if s.first is not None]]
     return b"".join(bytes([len(entries)]) + b"".join(entries) for entries in sections)
 
 
-def is_form(octets):
-    """Whether octets are a good form 1, said by reading them."""
+def is_form(octets, n):
+    """Whether octets are a good form n, said by reading them."""
     keys, rest = [], octets
-    for size in (4, 44):
+    for size in (3 + n, 43 + n):
         if not rest or len(rest) < 1 + rest[0] * size:
             return False
         entries, rest = [rest[1 + k * size: 1 + (k + 1) * size] for k in range(rest[0])], rest[1 + rest[0] * size:]
-        section = [entry[:3] for entry in entries]
+        section = [entry[:2 + n] for entry in entries]
         if section != sorted(set(section)):
             return False
         keys += section
         for entry in entries:
-            totals = [int.from_bytes(entry[k: k + 8], "big") for k in range(4, size, 8)]
-            if entry[2] > 63 or not 1 <= entry[3] <= 7 or any(n >= 2**60 for n in totals[1:]):
+            width, totals = entry[2 + n], [int.from_bytes(entry[k: k + 8], "big") for k in range(3 + n, size, 8)]
+            if entry[2] > 63 or n == 2 and entry[3] > 1 or not 1 <= width <= 7 or any(t >= 2**60 for t in totals[1:]):
                 return False
-            if totals and (totals[0] >= 256 ** entry[3] or totals[1] == 0):
+            if totals and (totals[0] >= 256**width or totals[1] == 0):
                 return False
     return not rest and len(keys) <= 8 and len(set(keys)) == len(keys)
 
 
-def spoiled(rng, octets):
-    """Octets near a form: cut, longer, or with one octet or one entry changed."""
-    octets = bytearray(octets)
+def spoiled(rng, octets, n):
+    """Octets near a form n: cut, longer, or with one octet or one entry changed."""
+    octets, size = bytearray(octets), 3 + n
     kind = rng.randrange(4)
     if kind == 0:
         return bytes(octets[: rng.randrange(len(octets))])
     if kind == 1:
         return bytes(octets) + bytes(rng.randrange(256) for _ in range(rng.randint(1, 50)))
     if kind == 2 and octets[0] > 0:
-        octets[5:5] = octets[1:5]
+        octets[1 + size: 1 + size] = octets[1: 1 + size]
         octets[0] += 1
         return bytes(octets)
     octets[rng.randrange(len(octets))] = rng.choice([0, 1, 8, 64, 255, rng.randrange(256)])
@@ -220,36 +225,48 @@ def history(rng, frames):
         del opened[sender.key]
         sender.counted = (frozenset(), None, None, 0, 0)
 
+    def writes(command, n, forms, flagged, octets=b""):
+        """A command that writes form n, with room or too little; 19 where form 1 lacks a flag, whatever the room. Says whether it is done."""
+        if n == 1 and flagged:
+            room, answer = rng.choice([0, len(forms[1]), 354]), "19"
+        elif rng.randrange(5) == 0:
+            room = rng.randrange(len(forms[n]))
+            answer = f"2 {room} {len(forms[n])}"
+        else:
+            room = rng.choice([len(forms[n]), len(forms[n]) + rng.randrange(3), LONGEST[n]])
+            answer = f"0 {len(forms[n])} {forms[n].hex()}{'ee' * (room - len(forms[n]))}"
+        say(f"{command} {room} {octets.hex()}".rstrip(), answer)
+        return answer[0] == "0"
+
     def restart():
-        """Saves, with room or without, behind a closing of the expedited channels where the console closes them; restores what was saved,
-        whatever happened since; or tries octets that are no good form."""
-        octets = form(opened)
-        kind = rng.randrange(4)
-        expedited = [sender for key, sender in opened.items() if key[2] == 1]
-        if kind < 2 and closes and rng.randrange(4):
-            while expedited:
-                end(expedited.pop())
-        if kind < 2 and expedited:
-            say(f"save {rng.choice([0, len(octets), 354])}", "19")
-        elif kind == 0:
-            room = len(octets) + rng.randrange(3)
-            say(f"save {room}", f"0 {len(octets)} {octets.hex()}{'ee' * (room - len(octets))}")
-            saved.append((octets, {key: sender.counted for key, sender in opened.items()}))
-        elif kind == 1:
-            room = rng.randrange(len(octets))
-            say(f"save {room}", f"2 {room} {len(octets)}")
+        """Saves in either form, perhaps behind a closing of the expedited channels; restores what was saved, converted never, once or there and
+        back again as far as that is done, whatever happened since; or tries octets that are no good form."""
+        kind, n = rng.randrange(4), rng.choice([1, 2])
+        if kind < 2:
+            if closes and rng.randrange(4):
+                for sender in [sender for key, sender in opened.items() if key[2] == 1]:
+                    end(sender)
+            forms, flagged = {1: form(opened, 1), 2: form(opened, 2)}, any(key[2] for key in opened)
+            if writes(SAVE[n], n, forms, flagged):
+                saved.append((n, forms, flagged, {key: sender.counted for key, sender in opened.items()}))
         elif kind == 2 and saved:
-            octets, states = rng.choice(saved)
-            say(f"restore {octets.hex()}", "0")
+            n, forms, flagged, states = rng.choice(saved)
+            for _ in range(rng.choice([0, 1, 1, 2, 2])):
+                if not writes(CONVERT[n], 3 - n, forms, flagged, forms[n]):
+                    break
+                n = 3 - n
+            say(f"{RESTORE[n]} {forms[n].hex()}", "0")
             opened.clear()
             for key, sender in senders.items():
                 sender.counted = states.get(key, (frozenset(), None, None, 0, 0))
                 if key in states:
                     opened[key] = sender
         else:
-            octets = spoiled(rng, octets)
-            if not is_form(octets):
-                say(f"restore {octets.hex() or '-'}", "18")
+            octets = spoiled(rng, form(opened, n), n)
+            n = n if rng.randrange(8) else 3 - n
+            if not is_form(octets, n):
+                command = rng.choice([RESTORE[n], f"{CONVERT[n]} {rng.choice([0, 362])}"])
+                say(f"{command} {octets.hex() or '-'}", "18")
 
     def heard(sender, place):
         nonlocal mixed
@@ -288,7 +305,7 @@ def history(rng, frames):
             start(sender)
         elif sender.key in opened and sender not in studied and rng.randrange(12) == 0:
             end(sender)
-        if rng.randrange(20) == 0:
+        if rng.randrange(10) == 0:
             restart()
         if rng.randrange(12) == 0:
             sent += several(sender.fecf)
@@ -330,7 +347,7 @@ def main():
         sys.exit(__doc__)
     program = words[0]
     number, frames, seed = (int(w) for w in (words[1:] + ["100", "1000", "1"][len(words) - 1:]))
-    steps, at_once, mixed, all_commands = 0, 0, 0, []
+    steps, at_once, mixed, restarts, converted, all_commands = 0, 0, 0, 0, 0, []
     for k in range(number):
         commands, answers, both = history(random.Random(seed * 1000003 + k), frames)
         wrong = compare(program, commands, answers)
@@ -339,6 +356,8 @@ def main():
         steps += len(commands)
         at_once += sum(c.startswith("many ") for c in commands)
         mixed += both
+        restarts += sum(c.startswith("restore") and a == "0" for c, a in zip(commands, answers))
+        converted += sum(c.startswith(("up ", "down ")) and a[0] == "0" for c, a in zip(commands, answers))
         all_commands += commands + ["restore 0000"]
     if out:
         with open(out + "/stdin", "w") as f:
@@ -346,7 +365,7 @@ def main():
         with open(out + "/stdout", "w") as f:
             f.write("".join(a + "\n" for a in ask_program(program, all_commands)))
     print(f"{number} histories of {frames} frames, {steps} answers, {at_once} of them to many, all equal")
-    print(f"{mixed} frames came while both flags of their channel number were open")
+    print(f"{mixed} frames came while both flags of their channel number were open; {restarts} restarts, {converted} conversions")
 
 
 main()

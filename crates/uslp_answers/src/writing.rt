@@ -1,4 +1,4 @@
-// The commands that write: hw, fw, rw, save.
+// The commands that write: hw, fw, rw, save, save2, up, down.
 use crate::headers::frame_of;
 use crate::headers::header_of;
 use crate::say_bad;
@@ -11,6 +11,7 @@ use crate::values::RULE;
 use crate::values::TOTAL;
 use crate::values::Values;
 use crate::values::octet_of;
+use uslp_form::Form;
 use uslp_kinds::LengthAnswer;
 use uslp_kinds::ProtocolIdAnswer;
 use uslp_kinds::UslpProtocolId;
@@ -111,9 +112,17 @@ fn fill(area: TransferFrameCreatorWithReservedData, data: &[u8], buf: &mut [u8])
     area.finish(buf)
 }
 
-pub fn save(values: &Values, channels: ChannelRecord) {
+pub fn save(form: Form, values: &Values, channels: ChannelRecord) {
     let mut room = fresh();
     let buf = front(&mut room, values[BUFLEN] as usize);
-    let answer = uslp_saved::save(channels, buf);
+    let answer = uslp_saved::save(channels, form, buf);
+    say_written(answer, buf);
+}
+
+// Octets of one form as octets of the other.
+pub fn convert(was: Form, becomes: Form, values: &Values, octets: &[u8]) {
+    let mut room = fresh();
+    let buf = front(&mut room, values[BUFLEN] as usize);
+    let answer = uslp_converting::convert(was, octets, becomes, buf);
     say_written(answer, buf);
 }

@@ -1,4 +1,4 @@
-// The commands on the channel record: open, close, hear, show, total, save, restore.
+// The commands on the channel record: open, close, hear, show, total; save and restore in either form.
 use uslp_answers::channels::say_done;
 use uslp_answers::channels::say_heard;
 use uslp_answers::channels::say_state;
@@ -10,6 +10,7 @@ use uslp_answers::values::VC;
 use uslp_answers::values::Values;
 use uslp_answers::values::WIDTH;
 use uslp_answers::values::octet_of;
+use uslp_form::Form;
 use uslp_kinds::BypassSequenceControlFlag;
 use uslp_record::Channel;
 use uslp_record::ChannelRecord;
@@ -46,13 +47,13 @@ pub(crate) fn total(channels: ChannelRecord) -> ChannelRecord {
     channels
 }
 
-pub(crate) fn save(values: &Values, channels: ChannelRecord) -> ChannelRecord {
-    uslp_answers::writing::save(values, channels);
+pub(crate) fn save(form: Form, values: &Values, channels: ChannelRecord) -> ChannelRecord {
+    uslp_answers::writing::save(form, values, channels);
     channels
 }
 
-pub(crate) fn restore(octets: &[u8], channels: ChannelRecord) -> ChannelRecord {
-    recorded(uslp_saved::restore(channels, octets))
+pub(crate) fn restore(form: Form, octets: &[u8], channels: ChannelRecord) -> ChannelRecord {
+    recorded(uslp_saved::restore(channels, form, octets))
 }
 
 fn channel_of(values: &Values) -> Channel {

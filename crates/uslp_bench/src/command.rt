@@ -24,8 +24,10 @@ use uslp_answers::say_zero;
 use uslp_answers::values::FECF;
 use uslp_answers::values::HEX;
 use uslp_answers::values::Values;
+use uslp_answers::writing::convert;
 use uslp_answers::writing::fw;
 use uslp_answers::writing::hw;
+use uslp_form::Form;
 use uslp_intake_answers::feed;
 use uslp_many_answers::many;
 use uslp_record::ChannelRecord;
@@ -65,7 +67,15 @@ const FEED: usize = 15;
 
 const DROP: usize = 16;
 
-const NOTHING: usize = 17;
+const SAVE2: usize = 17;
+
+const RESTORE2: usize = 18;
+
+const UP: usize = 19;
+
+const DOWN: usize = 20;
+
+const NOTHING: usize = 21;
 
 // Answers the line that is held. One that is too long is no command, as an empty one.
 pub(crate) fn answer(line: &mut [u8], holding: &mut [u8], bench: Bench) -> Bench {
@@ -107,7 +117,11 @@ save buflen
 restore hex
 many fecf hex
 feed fecf hex
-drop";
+drop
+save2 buflen
+restore2 hex
+up buflen hex
+down buflen hex";
     called(rows, line, values)
 }
 
@@ -152,6 +166,8 @@ fn act_on_frame(command: usize, values: &Values, data: &[u8]) {
         HW => hw(values),
         FW => fw(values, data, false),
         RW => fw(values, data, true),
+        UP => convert(Form::One, Form::Two, values, data),
+        DOWN => convert(Form::Two, Form::One, values, data),
         _ => {}
     }
 }
@@ -168,8 +184,10 @@ fn act_on_channels(
         HEAR => hear(values, data, channels),
         SHOW => show(values, channels),
         TOTAL => total(channels),
-        SAVE => save(values, channels),
-        RESTORE => restore(data, channels),
+        SAVE => save(Form::One, values, channels),
+        RESTORE => restore(Form::One, data, channels),
+        SAVE2 => save(Form::Two, values, channels),
+        RESTORE2 => restore(Form::Two, data, channels),
         MANY => many(data, values[FECF] == 1, channels),
         _ => channels,
     }

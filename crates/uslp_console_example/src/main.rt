@@ -1,4 +1,5 @@
 // A console: it hears frames of one channel, and knows which never came, over a restart and from octets in blocks too.
+use uslp_form::Form;
 use uslp_hearing::FrameArrival;
 use uslp_hearing::HearAnswer;
 use uslp_hearing::handed_on;
@@ -96,9 +97,9 @@ fn stopped(channels: ChannelRecord, held: usize, refusal: Refusal) -> Link {
 // The octets outlive the record: written to a file before the console stops, and read from it when it starts.
 fn restart(channels: ChannelRecord) -> ChannelRecord {
     let mut saved = [0u8; MAX_FORM_LEN];
-    match save(channels, &mut saved) {
+    match save(channels, Form::One, &mut saved) {
         LengthAnswer::Done(n) => {
-            let restored = restore(ChannelRecord::new(), &saved[..n]);
+            let restored = restore(ChannelRecord::new(), Form::One, &saved[..n]);
             let answer = restored.answer;
             match answer {
                 DoneAnswer::Done => say(b"restored, octets: ", n as u64),

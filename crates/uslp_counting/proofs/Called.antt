@@ -1,8 +1,9 @@
 -- Every record that calls made, restorings among them: its console total, and that a saving of it comes back.
-use mathlib.Core.Path.{_≡_, refl, sym, subst}
+use mathlib.Core.Path.{_≡_, refl, sym, ap, subst}
 use mathlib.Core.Bool.{Bool}
 use mathlib.Core.List.{List, [], _∷_, _++_, map}
 use Prim.Native.Nat.{ℕ, _≤_}
+use native.Mathlib.Omega.{arith}
 use lib.ListN.{length, drop, replicate}
 use lib.Seq.{take-append-seam}
 use Rattle.uslp_kinds.specs.Outcome.{done, leaving}
@@ -10,15 +11,21 @@ use Rattle.uslp_record.specs.Slots.{stateAt, emptyRecord}
 use Rattle.uslp_record.specs.Record.{Kept, keeping, consoleTotal}
 use Rattle.uslp_record.specs.Made.{Made}
 use Rattle.uslp_record.specs.declared.Channel.{Channel}
+use Rattle.uslp_record.specs.declared.SlotState.{SlotState}
 use Rattle.uslp_record.specs.declared.ChannelRecord.{ChannelRecord}
 use Rattle.uslp_record.proofs.Keeps.{made-empty, made-opening, made-closing}
-use Rattle.uslp_form.specs.Form.{Form, Whole, formOf, restored}
-use Rattle.uslp_form.specs.Form.Form.{one}
+use Rattle.uslp_form.specs.declared.Form.{Form}
+use Rattle.uslp_form.specs.Entries.{Each}
+use Rattle.uslp_form.specs.Form.{EntryWhole, Whole, form, formOf, GoodForm, restored}
 use Rattle.uslp_form.specs.Saved.{saving, Restoring}
 use Rattle.uslp_form.specs.Saved.Restoring.{good, bad}
-use Rattle.uslp_form.proofs.Trips.{entriesOf, made-good}
+use Rattle.uslp_form.specs.declared.Form.the-variants.{Two}
+use Rattle.uslp_form.proofs.Flags.{none-lacks, whole-two}
+use Rattle.uslp_form.proofs.Restored.{eight-restored}
+use Rattle.uslp_form.proofs.Trips.{unheardOf, heardOf, entriesOf, all-entries, good-saved, made-good}
+use Rattle.uslp_form.proofs.Converted.{good-across, saved-across, whole-restored, converting-done}
 use Rattle.uslp_form.proofs.Rows.{sound-fits, restores-done, restores-refused}
-use Rattle.uslp_form.proofs.Claims.{saving-done, Back, restores-saved, comes-back, form-long}
+use Rattle.uslp_form.proofs.Claims.{saving-done, Back, restores-saved, comes-back, form-within}
 use Rattle.uslp_reader.specs.EndToEnd.{cut}
 use Rattle.uslp_reader.specs.declared.TransferFrame.{TransferFrame}
 use Rattle.uslp_hearing.specs.Hearing.{channelOf, frameHearing}
@@ -30,11 +37,12 @@ use Rattle.uslp_many.proofs.Made.{made-many}
 use Rattle.uslp_counting.specs.History.{EachCall, recordOf, Handing, heardAll, called, run, Sender, Event, Call, callOf}
 use Rattle.uslp_counting.specs.History.Call.{hears as hearing, hears-many as many, opens as opening, closes as closing}
 use Rattle.uslp_counting.specs.Console.{missingOverOpen, Given}
-use Rattle.uslp_counting.specs.Restarts.{Wrote, Restart, Leads, Called}
+use Rattle.uslp_counting.specs.Restarts.{Wrote, Converted, SavingOf, Restart, Leads, Called}
+use Rattle.uslp_counting.specs.Restarts.SavingOf.{wrote, converted}
 use Rattle.uslp_counting.specs.Restarts.Restart.{resumes, refuses}
 use Rattle.uslp_counting.specs.Restarts.Leads.{ends, next, restart}
 use Rattle.uslp_counting.specs.Restarts.Called.{new, opens, closes, hears, hears-many, restores}
-use Rattle.uslp_counting.proofs.Restarts.{wrote-form, wrote-whole, leads-keep}
+use Rattle.uslp_counting.proofs.Restarts.{wrote-form, wrote-whole, entries-told, good-converted, leads-keep}
 use Rattle.uslp_counting.proofs.Console.{console-made}
 
 -- what holds of records that calls made holds after a restoring too, done or refused
@@ -81,6 +89,10 @@ pub called-back : {r : ChannelRecord} → Called r → (f : Form) → Whole f r 
     → (found : ChannelRecord) → CameBack f r b found
 called-back c = made-back (made-called c)
 
+-- form 2 always does
+pub called-back-two : {r : ChannelRecord} → Called r → (b : List ℕ) → length (formOf Two r) ≤ length b → (found : ChannelRecord) → CameBack Two r b found
+called-back-two {r} c = called-back c Two (whole-two r)
+
 -- the record after a call of many frames is the one that the call leaves
 many-counted : (K : Channel) (fecf : Bool) (fs : List (TransferFrame × List ℕ)) (t : Tally) (r : ChannelRecord)
     → hearings fecf fs t r .1 ≡ heardAll channelOf frameHearing K r fs fecf .1
@@ -122,28 +134,84 @@ called-restored : {f : Form} {found q : ChannelRecord} {s : List ℕ} → Restor
 called-restored {f} {s} h = let d = restores-done f h in subst Called (d .is) (restores f s (good (d .unheard) (d .heard) (d .is-good)) new)
 
 called-restart : {r q : ChannelRecord} → Restart r q → Called r → Called q
-called-restart (resumes f fit w h) c = called-restored h
+called-restart (resumes f s h) c = called-restored h
 called-restart (refuses f s h) c = restores f s h c
 
 -- a restart keeps what holds of records that calls made
 pub made-restart : {r q : ChannelRecord} → Restart r q → Made r → Made q
-made-restart (resumes f fit w h) made = made-called (called-restored h)
+made-restart (resumes f s h) made = made-called (called-restored h)
 made-restart (refuses f s h) made = subst Made (restores-refused f h) made
 
 -- octets that saving m wrote are restored, whatever record is found
-module _ {f : Form} {m : ChannelRecord} {s : List ℕ} (made : Made m) (w : Wrote f m s) (found : ChannelRecord) where
-  pub restores-wrote : Restoring f found s (keeping (done tt) (restored (entriesOf f m)))
-  restores-wrote =
+module _ {f : Form} {m : ChannelRecord} {s : List ℕ} (made : Made m) (w : Wrote f m s) where
+  pub wrote-counts : SavingOf m f s
+  wrote-counts = wrote (λ i. sound-fits f (stateAt m i) (made .sound i)) w
+
+  pub restores-wrote : (found : ChannelRecord) → Restoring f found s (keeping (done tt) (restored (entriesOf f m)))
+  restores-wrote found =
       subst (λ (o : List ℕ). Restoring f found o (keeping (done tt) (restored (entriesOf f m)))) (sym (wrote-form w))
       (restores-saved f m made (wrote-whole w) found)
 
-  pub restarts-made : Restart m (restored (entriesOf f m))
-  restarts-made = resumes f (λ i. sound-fits f (stateAt m i) (made .sound i)) w restores-wrote
+-- and so are octets that count as them: with the entries that were saved
+pub record GoodSaving (f : Form) (m : ChannelRecord) (s : List ℕ) : Type 0 where
+  pub unheard : List SlotState
+  pub heard : List SlotState
+  pub is-good : GoodForm f s unheard heard
 
--- saved by form 1 into 354 octets, which is room for any, and restored where no channel is open
-pub restarts-one : (m : ChannelRecord) → Made m → Whole one m → Restart m (restored (entriesOf one m))
-restarts-one m made whole =
-    restarts-made made (made-back made one whole (replicate 354 0) (form-long m (made .eight)) emptyRecord .wrote) emptyRecord
+pub good-saving : {f : Form} {m : ChannelRecord} {s : List ℕ} → Made m → SavingOf m f s → GoodSaving f m s
+good-saving {f} {m} made (wrote fit w) =
+    let d = restores-done f (restores-wrote made w emptyRecord) in record { unheard = d .unheard; heard = d .heard; is-good = d .is-good }
+good-saving made (converted h c) =
+    record { unheard = entries-told c .unheard; heard = entries-told c .heard; is-good = good-converted c }
+
+module _ {f : Form} {m : ChannelRecord} {s : List ℕ} (made : Made m) (h : SavingOf m f s) where
+  abbrev pub resumed : ChannelRecord
+  resumed = restored (good-saving made h .unheard ++ good-saving made h .heard)
+
+  pub restores-saving : (found : ChannelRecord) → Restoring f found s (keeping (done tt) resumed)
+  restores-saving found = good (good-saving made h .unheard) (good-saving made h .heard) (good-saving made h .is-good)
+
+  pub restarts-saving : Restart m resumed
+  restarts-saving = resumes f h (restores-saving emptyRecord)
+
+-- saved by a form that says its channels whole, into as many octets as any has, and restored where no channel is open
+pub restarts-by : (f : Form) (m : ChannelRecord) → Made m → Whole f m → Restart m (restored (entriesOf f m))
+restarts-by f m made whole =
+    let w = made-back made f whole (replicate 362 0) (form-within f m (made .eight)) emptyRecord .wrote in
+    resumes f (wrote-counts made w) (restores-wrote made w emptyRecord)
+
+-- saved by one form, converted to the other, and restored from that
+module _ (f g : Form) (m : ChannelRecord) (made : Made m) (whole : Whole f m) (other : Whole g m) where
+  across-whole : Each (EntryWhole g) (entriesOf f m)
+  across-whole = all-entries f m (EntryWhole g) (none-lacks g (m .slots) other)
+
+  abbrev across : List ℕ
+  across = form g (unheardOf f m) (heardOf f m)
+
+  converted-across : Converted f g (formOf f m) across
+  converted-across =
+      let k = good-saved f m made whole in
+      let e = ap length (saved-across f g (unheardOf f m) (heardOf f m) k across-whole) in
+      let room = form-within g (restored (entriesOf f m)) (eight-restored (entriesOf f m) (k .few)) in
+      record {
+        buffer = replicate 362 0;
+        left = across ++ drop (length across) (replicate 362 0);
+        count = length across;
+        converts = converting-done f g (formOf f m) (replicate 362 0) (record {
+          unheard = unheardOf f m;
+          heard = heardOf f m;
+          from = k;
+          whole = whole-restored f g (unheardOf f m) (heardOf f m) k across-whole;
+          room = omega (arith, e, room);
+        });
+        octets = take-append-seam across (drop (length across) (replicate 362 0));
+      }
+
+  pub restarts-across : Restart m (restored (entriesOf f m))
+  restarts-across =
+      let w = made-back made f whole (replicate 362 0) (form-within f m (made .eight)) emptyRecord .wrote in
+      resumes {found = emptyRecord} g (converted (wrote-counts made w) converted-across)
+      (good (unheardOf f m) (heardOf f m) (good-across f g (unheardOf f m) (heardOf f m) (good-saved f m made whole) across-whole))
 
 module _ {K : Channel} {width : ℕ} {fecf : Bool} (S : Sender channelOf K width fecf) where
   -- a restart at the end of a run
@@ -164,9 +232,10 @@ module _ {K : Channel} {width : ℕ} {fecf : Bool} (S : Sender channelOf K width
     pub restores : Restoring f found s (keeping (done tt) q)
     pub leads : Leads frameHearing S r es hs q
 
-  -- A run led to a record m that calls made, and saving m wrote s: whatever was called since, restoring s is done and the run goes on.
+  -- A run led to a record m that calls made, and s counts as what saving m wrote: whatever was called since, restoring s is done and the run
+  -- goes on.
   pub goes-on : {r m : ChannelRecord} {es : List (Event channelOf K width)} {hs : List Handing} → Leads frameHearing S r es hs m → Called m
-      → {f : Form} {s : List ℕ} → Wrote f m s → (found : ChannelRecord) → GoesOn r es hs f found s
-  goes-on {m} l c {f} w found =
+      → {f : Form} {s : List ℕ} → SavingOf m f s → (found : ChannelRecord) → GoesOn r es hs f found s
+  goes-on l c h found =
       let made = made-called c in
-      record { q = restored (entriesOf f m); restores = restores-wrote made w found; leads = leads-restart l (restarts-made made w found) }
+      record { q = resumed made h; restores = restores-saving made h found; leads = leads-restart l (restarts-saving made h) }

@@ -18,5 +18,6 @@ pub mod Witness
 pub mod Instance
 pub mod Restarted
 pub mod Mixed
+pub mod Shared
 pub mod Wrong
 pub mod Blocks

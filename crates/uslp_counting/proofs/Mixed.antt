@@ -25,7 +25,7 @@ use Rattle.uslp_record.proofs.Keeps.{made-empty, made-opening}
 use Rattle.uslp_record.specs.declared.SlotState.the-variants.{Opened}
 use Rattle.uslp_record.specs.declared.ChannelRecord.{ChannelRecord}
 use Rattle.uslp_form.specs.Form.{anyLacks, Whole, insert, sorted, restored}
-use Rattle.uslp_form.specs.Form.Form.{one}
+use Rattle.uslp_form.specs.declared.Form.the-variants.{One}
 use Rattle.uslp_form.proofs.Trips.{entriesOf}
 use Rattle.uslp_hearing.specs.Hearing.{channelOf, hearingBy, frameHearing}
 use Rattle.uslp_counting.specs.Places.{lost}
@@ -36,7 +36,7 @@ use Rattle.uslp_counting.specs.Restarts.{Leads}
 use Rattle.uslp_counting.specs.Restarts.Leads.{ends, next}
 use Rattle.uslp_counting.specs.Updated.{unflagged, Demand3Updated}
 use Rattle.uslp_counting.proofs.Arrival.{sentAt, reads}
-use Rattle.uslp_counting.proofs.Called.{restarts-one}
+use Rattle.uslp_counting.proofs.Called.{restarts-by}
 use Rattle.uslp_counting.proofs.Updated.{updated, made-before}
 use Rattle.uslp_counting.proofs.Witness.{craft, craftBy, oven}
 use Rattle.uslp_counting.proofs.Instance.{sender, are-oven, begun, begins, near, lost-two}
@@ -123,13 +123,13 @@ made-begun : Made begun
 made-begun = subst Made (ap recordOf begins) (made-opening emptyRecord made-empty craft 1 (lit< tt))
 
 abbrev back : ChannelRecord → ChannelRecord
-back m = restored (entriesOf one m)
+back m = restored (entriesOf One m)
 
-whole-first : Whole one first
+whole-first : Whole One first
 unfolding oven frameReading headerReading fieldReading judging find anyLacks
 whole-first = refl
 
-whole-misled : Whole one misled
+whole-misled : Whole One misled
 unfolding oven frameReading headerReading fieldReading judging find anyLacks
 whole-misled = refl
 
@@ -147,7 +147,7 @@ pub one-missing-updated : missingFor craft after ≡ 1
 unfolding places
 one-missing-updated =
     updated craft refl 1 false sender (omega arith) (omega arith) emptyRecord begun refl begins (arrives 0 [] ∷ []) _ first led-first (tt, tt) (back first)
-    (restarts-one first (made-before sender led-first made-begun (are-heard SequenceControlledQoS 0, tt)) whole-first)
+    (restarts-by One first (made-before sender led-first made-begun (are-heard SequenceControlledQoS 0, tt)) whole-first)
     (hurried ∷ arrives 2 [] ∷ []) _ after led-on (near 2 (omega arith)) .1
     ∙ lost-two 2 (omega arith)
 
@@ -168,7 +168,7 @@ unfolding places
 not-without demand =
     let made = made-before sender led-misled made-begun (are-heard SequenceControlledQoS 0, (are-heard ExpeditedQoS 7, tt)) in
     let d = demand craft refl 1 false sender (omega arith) (omega arith) emptyRecord begun refl begins (arrives 0 [] ∷ hurried ∷ [])
-    (handingAt sender 0 0 ∷ []) misled led-misled (tt, (tt, tt)) (back misled) (restarts-one misled made whole-misled) (arrives 1 [] ∷ []) [] wronged led-wrong
+    (handingAt sender 0 0 ∷ []) misled led-misled (tt, (tt, tt)) (back misled) (restarts-by One misled made whole-misled) (arrives 1 [] ∷ []) [] wronged led-wrong
     (near 1 (omega arith)) in
     let z : _≡_ {A = ℕ} 6 0 = sym six-missing ∙ d .1 ∙ lost-two 1 (omega arith) in
     omega arith

@@ -13,7 +13,7 @@ use Rattle.uslp_record.specs.Slots.{find, emptyRecord}
 use Rattle.uslp_record.specs.Judging.{judging}
 use Rattle.uslp_record.specs.declared.ChannelRecord.{ChannelRecord}
 use Rattle.uslp_form.specs.Form.{anyLacks, Whole, insert, sorted, restored}
-use Rattle.uslp_form.specs.Form.Form.{one}
+use Rattle.uslp_form.specs.declared.Form.the-variants.{One}
 use Rattle.uslp_form.proofs.Trips.{entriesOf}
 use Rattle.uslp_hearing.specs.Hearing.{channelOf, frameHearing}
 use Rattle.uslp_counting.specs.History.{recordOf, called, Roomy, missingFor, frameAt, callOf, handingAt}
@@ -22,7 +22,7 @@ use Rattle.uslp_counting.specs.Restarts.{Restart, Leads, Called}
 use Rattle.uslp_counting.specs.Restarts.Leads.{ends, next, restart}
 use Rattle.uslp_counting.specs.Restarts.Called.{new, opens, hears}
 use Rattle.uslp_counting.proofs.Theorem.{counted-over}
-use Rattle.uslp_counting.proofs.Called.{made-called, restarts-one}
+use Rattle.uslp_counting.proofs.Called.{made-called, restarts-by}
 use Rattle.uslp_counting.proofs.Witness.{craft, oven}
 use Rattle.uslp_counting.proofs.Instance.{sender, are-sent, begun, begins, two, near, lost-two}
 
@@ -31,7 +31,7 @@ abbrev pub heard : ChannelRecord
 heard = called channelOf frameHearing craft begun (callOf sender (arrives 0 [])) .1
 
 abbrev pub back : ChannelRecord
-back = restored (entriesOf one heard)
+back = restored (entriesOf One heard)
 
 abbrev pub after : ChannelRecord
 after = called channelOf frameHearing craft back (callOf sender (arrives 2 [])) .1
@@ -41,14 +41,14 @@ called-heard =
     hears (frameAt sender 0 ++ []) false (are-append (frameAt sender 0) [] (are-sent 0) (λ i. lit< tt))
     (subst Called (ap recordOf begins) (opens craft 1 (lit< tt) new))
 
-whole-heard : Whole one heard
+pub whole-heard : Whole One heard
 unfolding oven frameReading headerReading fieldReading judging find anyLacks
 whole-heard = refl
 
 pub restarts : Restart heard back
-restarts = restarts-one heard (made-called called-heard) whole-heard
+restarts = restarts-by One heard (made-called called-heard) whole-heard
 
-first-room : Roomy channelOf frameHearing craft begun (callOf sender (arrives 0 []))
+pub first-room : Roomy channelOf frameHearing craft begun (callOf sender (arrives 0 []))
 unfolding oven frameReading headerReading fieldReading judging find
 first-room x e k f = not-done (sym f)
 

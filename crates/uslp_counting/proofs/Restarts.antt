@@ -15,19 +15,22 @@ use Rattle.uslp_record.proofs.Seek.{finds}
 use Rattle.uslp_record.proofs.Slots.{seek-passes}
 use Rattle.uslp_record.specs.declared.ChannelRecord.{ChannelRecord}
 use Rattle.uslp_form.specs.Entries.{Each, Once, isOpened, isHeard}
-use Rattle.uslp_form.specs.Form.{Form, EntryWhole, Whole, sorted, formOf, Fitting, GoodForm, restored}
+use Rattle.uslp_form.specs.declared.Form.{Form}
+use Rattle.uslp_form.specs.Form.{EntryWhole, Whole, sorted, formOf, Fitting, GoodForm, restored}
 use Rattle.uslp_form.proofs.Each.{each-from}
 use Rattle.uslp_form.proofs.Sorted.{sorted-each}
 use Rattle.uslp_form.proofs.Flags.{none-lacks}
 use Rattle.uslp_form.proofs.Restored.{each-at, eight-restored}
 use Rattle.uslp_form.proofs.Trips.{unheardOf, heardOf, entriesOf, found-again}
 use Rattle.uslp_form.proofs.Claims.{Saves, saves}
-use Rattle.uslp_form.proofs.Rows.{Entry, form-one, good-unheard, good-heard, restores-done, restores-refused}
+use Rattle.uslp_form.proofs.Rows.{Entry, form-one, good-unheard, good-heard, good-one, restores-done, restores-refused}
+use Rattle.uslp_form.proofs.Converted.{Converts, told, good-wrote}
 use Rattle.uslp_hearing.specs.Hearing.{Naming}
 use Rattle.uslp_counting.specs.History.{Hearer, Call, EachCall, recordOf, Handing, called, Sender, frameAt, Event, callOf}
 use Rattle.uslp_counting.specs.History.Call.{hears, opens, closes}
 use Rattle.uslp_counting.specs.History.Event.{arrives, damaged, elsewhere, misfits, opened, closed, again}
-use Rattle.uslp_counting.specs.Restarts.{Wrote, Restart, Leads}
+use Rattle.uslp_counting.specs.Restarts.{Wrote, Converted, SavingOf, Restart, Leads}
+use Rattle.uslp_counting.specs.Restarts.SavingOf.{wrote, converted}
 use Rattle.uslp_counting.specs.Restarts.Restart.{resumes, refuses}
 use Rattle.uslp_counting.proofs.Singly.{Steps, steps-of}
 use Rattle.uslp_counting.proofs.Singly.Steps.{ends, next, restart}
@@ -56,7 +59,7 @@ module _ (f : Form) (r : ChannelRecord) (fit : Fitting f r) (whole : Whole f r) 
 
   -- the entries of octets that a saving wrote are those that it saved
   module _ (us hs : List SlotState) (g : GoodForm f (formOf f r) us hs) where
-    pub entries-back : us ++ hs ≡ entriesOf f r
+    entries-back : us ++ hs ≡ entriesOf f r
     entries-back =
         let e =
         form-one f us (unheardOf f r) hs (heardOf f r) (good-unheard f g) (saved-entries isOpened) (good-heard f g) (saved-entries isHeard)
@@ -72,12 +75,45 @@ module _ (f : Form) (r : ChannelRecord) (fit : Fitting f r) (whole : Whole f r) 
         subst (λ (l : List SlotState). Stands K (restored l) t) (sym entries-back)
         (record { eight = eight-restored (entriesOf f r) few; there = omega (arith, a .there, few); state = a .state ∙ at .state })
 
+-- what a converting wrote is a good form of the entries that the octets it came from have
+module _ {f g : Form} {s t : List ℕ} (c : Converted f g s t) where
+  abbrev pub entries-told : Converts f g s (c .buffer) (c .count) (c .left)
+  entries-told = told (c .converts)
+
+  pub good-converted : GoodForm g t (entries-told .unheard) (entries-told .heard)
+  good-converted = subst (λ (o : List ℕ). GoodForm g o (entries-told .unheard) (entries-told .heard)) (c .octets) (good-wrote (c .converts))
+
+-- So octets that count as what saving r wrote, where they are a good form of some entries, go back to octets that it wrote, which are a good
+-- form of the same.
+pub record Origin (r : ChannelRecord) (us hs : List SlotState) : Type 0 where
+  pub form : Form
+  pub octets : List ℕ
+  pub fits : Fitting form r
+  pub wrote : Wrote form r octets
+  pub good : GoodForm form octets us hs
+
+pub origin : {r : ChannelRecord} {f : Form} {s : List ℕ} → SavingOf r f s → (us hs : List SlotState) → GoodForm f s us hs → Origin r us hs
+origin (wrote fit w) us hs k = record { form = _; octets = _; fits = fit; wrote = w; good = k }
+origin {r} (converted {f = f} {g = g} h c) us hs k =
+    let d = entries-told c in
+    let e = good-one g (good-converted c) k in
+    subst (λ (l : List SlotState). Origin r us l) (e .1) (subst (λ (l : List SlotState). Origin r l (d .heard)) (e .0) (origin h (d .unheard) (d .heard) (d .from)))
+
+-- and these are the entries that were saved
+module _ {r : ChannelRecord} {us hs : List SlotState} (o : Origin r us hs) where
+  origin-good : GoodForm (o .form) (formOf (o .form) r) us hs
+  origin-good = subst (λ (s : List ℕ). GoodForm (o .form) s us hs) (wrote-form (o .wrote)) (o .good)
+
+  pub origin-entries : us ++ hs ≡ entriesOf (o .form) r
+  origin-entries = entries-back (o .form) r (o .fits) (wrote-whole (o .wrote)) us hs origin-good
+
+  origin-stands : (K : Channel) (t : SlotState) → Stands K r t → Stands K (restored (us ++ hs)) t
+  origin-stands = stands-back (o .form) r (o .fits) (wrote-whole (o .wrote)) us hs origin-good
+
 pub restart-keeps : {r q : ChannelRecord} → Restart r q → (K : Channel) (t : SlotState) → Stands K r t → Stands K q t
-restart-keeps (resumes {r = r} f fit w h) K t at =
+restart-keeps (resumes f s h) K t at =
     let d = restores-done f h in
-    subst (λ (x : ChannelRecord). Stands K x t) (d .is)
-    (stands-back f r fit (wrote-whole w) (d .unheard) (d .heard)
-    (subst (λ (o : List ℕ). GoodForm f o (d .unheard) (d .heard)) (wrote-form w) (d .is-good)) K t at)
+    subst (λ (x : ChannelRecord). Stands K x t) (d .is) (origin-stands (origin s (d .unheard) (d .heard) (d .is-good)) K t at)
 restart-keeps (refuses f s h) K t at = subst (λ (x : ChannelRecord). Stands K x t) (restores-refused f h) at
 
 -- what hearing, opening and closing keep, the call of each event keeps

@@ -1,8 +1,8 @@
 -- Octets that a console not yet updated saved count as a saving, for a channel of whose spacecraft and number it heard no expedited frame.
 use mathlib.Core.Path.{_≡_, refl, sym, _∙_, ap, subst}
 use mathlib.Core.Bool.{Bool, true, false}
-use mathlib.Core.List.{List, [], _∷_, _++_, map, append-nil}
-use Prim.Native.Nat.{ℕ, _^_, _/_}
+use mathlib.Core.List.{List, [], _∷_, _++_, map, append-nil, append-assoc}
+use Prim.Native.Nat.{ℕ, _^_, _/_, _≤_}
 use lib.Dec.{eqb}
 use Rattle.uslp_kinds.specs.Outcome.{done}
 use Rattle.uslp_kinds.specs.Kinds.{bypassNumber}
@@ -14,38 +14,41 @@ use Rattle.uslp_record.specs.Slots.{sameChannel, find, vacant, slotOf, emptyRec
 use Rattle.uslp_record.specs.Record.{Kept, keeping}
 use Rattle.uslp_record.specs.Made.{Made}
 use Rattle.uslp_record.specs.declared.Channel.{Channel}
+use Rattle.uslp_record.specs.declared.SlotState.{SlotState}
 use Rattle.uslp_record.specs.declared.SlotState.the-variants.{Closed, Opened}
 use Rattle.uslp_record.specs.declared.ChannelRecord.{ChannelRecord}
 use Rattle.uslp_record.proofs.Slots.{true-false, same-one}
 use Rattle.uslp_record.proofs.Ways.{opening-ways, closing-ways}
 use Rattle.uslp_record.proofs.Keeps.{made-opening, made-closing}
-use Rattle.uslp_form.specs.Form.{anyLacks, EntryWhole, Whole, GoodForm, restored}
-use Rattle.uslp_form.specs.Form.Form.{one}
+use Rattle.uslp_form.specs.Form.{anyLacks, EntryWhole, Whole, restored}
+use Rattle.uslp_form.specs.declared.Form.the-variants.{One}
 use Rattle.uslp_form.specs.Saved.{Restoring}
 use Rattle.uslp_form.proofs.Flags.{none-lacks, lacks-none, lacks-set}
 use Rattle.uslp_form.proofs.Restored.{each-restored}
 use Rattle.uslp_form.proofs.Trips.{entriesOf, all-entries}
 use Rattle.uslp_form.proofs.Rows.{restores-done, restores-refused}
 use Rattle.uslp_form.specs.Entries.{Each}
-use Rattle.uslp_hearing.specs.Hearing.{channelOf, hearingBy, frameHearing}
+use Rattle.uslp_hearing.specs.Hearing.{Naming, channelOf, hearingBy, frameHearing}
 use Rattle.uslp_hearing.specs.declared.FrameArrival.{FrameArrival}
 use Rattle.uslp_hearing.proofs.Ways.{frame-ways, made-hearing}
 use Rattle.uslp_reader.specs.EndToEnd.{cut}
-use Rattle.uslp_counting.specs.Places.{Window, lost}
-use Rattle.uslp_counting.specs.History.{Call, EachCall, recordOf, Handing, isOf, heardAll, called, run, Sender, Event, callOf, places}
+use Rattle.uslp_counting.specs.Places.{leaders, Window, lost}
+use Rattle.uslp_counting.specs.History.{Call, EachCall, recordOf, Handing, isOf, heardAll, called, run, Sender, Event, callOf, handings, placesOf, places}
 use Rattle.uslp_counting.specs.History.Call.{hears, hears-many, opens, closes}
 use Rattle.uslp_counting.specs.History.Event.{arrives, damaged, elsewhere, misfits, opened, closed, again}
 use Rattle.uslp_counting.specs.Console.{Given}
 use Rattle.uslp_counting.specs.Restarts.{Wrote, Restart, Leads}
 use Rattle.uslp_counting.specs.Restarts.Restart.{resumes, refuses}
-use Rattle.uslp_counting.specs.Updated.{unflagged, Sequenced, NoExpedited, EachEvent, Demand3Updated}
-use Rattle.uslp_counting.proofs.Stands.{stands-opened}
+use Rattle.uslp_counting.specs.Updated.{unflagged, Sequenced, NoExpedited, EachEvent, Demand3Updated, Shares, Demand3Shared}
+use Rattle.uslp_counting.specs.Updated.Shares.{ends, here, there}
+use Rattle.uslp_counting.specs.Restarts.Leads.{ends as leads-end, restart}
+use Rattle.uslp_counting.proofs.Stands.{Stands, stands-opened}
 use Rattle.uslp_counting.proofs.Agrees.{Agrees, all-agree}
-use Rattle.uslp_counting.proofs.Restarts.{wrote-form, wrote-whole, entries-back, restart-keeps, event-keeps, leads-keep}
+use Rattle.uslp_counting.proofs.Restarts.{origin, origin-entries, restart-keeps, event-keeps, leads-keep}
 use Rattle.uslp_counting.proofs.Singly.{steps-of}
 use Rattle.uslp_counting.proofs.Arrival.{reads}
-use Rattle.uslp_counting.proofs.Step.{quiet}
-use Rattle.uslp_counting.proofs.Theorem.{counts, counted-all}
+use Rattle.uslp_counting.proofs.Step.{Counting, quiet, handingsAfter}
+use Rattle.uslp_counting.proofs.Theorem.{Counted, counts, counted-all}
 use Rattle.uslp_counting.proofs.Called.{made-restart, restores-wrote}
 
 module _ (K : Channel) (plain : K .«sequence_control_flag» ≡ SequenceControlledQoS) where
@@ -87,15 +90,69 @@ module _ (K : Channel) (plain : K .«sequence_control_flag» ≡ SequenceControl
     each-agrees [] none = tt
     each-agrees (e ∷ es) none = (agrees-heard e (none .0), each-agrees es (none .1))
 
+-- what arrives in two parts of a run
+places-append : {name : Naming} {K : Channel} {width : ℕ} (es ds : List (Event name K width)) → places (es ++ ds) ≡ places es ++ places ds
+unfolding places
+places-append [] ds = refl
+places-append (e ∷ es) ds =
+    ap (λ (l : List ℕ). placesOf e ++ l) (places-append es ds) ∙ sym (append-assoc (placesOf e) (places es) (places ds))
+
+window-split : {K : Channel} {width : ℕ} (seen : List ℕ) (es ds : List (Event channelOf K width)) (ps : List ℕ)
+    → Window (256 ^ width / 2) seen (places (es ++ ds) ++ ps) → Window (256 ^ width / 2) seen (places es ++ (places ds ++ ps))
+window-split {width = width} seen es ds ps =
+    subst (Window (256 ^ width / 2) seen) (ap (λ (l : List ℕ). l ++ ps) (places-append es ds) ∙ append-assoc (places es) (places ds) ps)
+
+module _ {K : Channel} {width : ℕ} {fecf : Bool} (S : Sender channelOf K width fecf) where
+  -- a leg and what follows it are counted as one
+  module _ {es ds : List (Event channelOf K width)} {hs gs : List Handing} {m q : ChannelRecord} {seen before ps : List ℕ} where
+    joined : (a : Counted S es hs m seen before (places ds ++ ps)) → Counted S ds gs q (a .after) (a .leading) ps
+        → Counted S (es ++ ds) (hs ++ gs) q seen before ps
+    joined a b =
+        let split : places es ++ (places ds ++ ps) ≡ places (es ++ ds) ++ ps =
+        sym (append-assoc (places es) (places ds) ps) ∙ ap (λ (l : List ℕ). l ++ ps) (sym (places-append es ds)) in
+        record {
+          after = b .after;
+          leading = b .leading;
+          state = b .state;
+          stands = b .stands;
+          counting = b .counting;
+          near = b .near;
+          leads = b .leads ∙ a .leads ∙ ap (λ (l : List ℕ). before ++ leaders seen l) split;
+          hands = append-assoc hs gs (handingsAfter S (b .after) (leaders (b .after) ps))
+              ∙ ap (λ (l : List Handing). hs ++ l) (b .hands) ∙ a .hands
+              ∙ ap (λ (l : List ℕ). handingsAfter S seen (leaders seen l)) split;
+        }
+
+  legs : K .«sequence_control_flag» ≡ SequenceControlledQoS → 1 ≤ width → width ≤ 7
+      → {es : List (Event channelOf K width)} {hs : List Handing} {r q : ChannelRecord} → Shares NoExpedited frameHearing S r es hs q
+      → (seen before ps : List ℕ) (t : SlotState) → Stands K r t → Counting S seen before t → Window (256 ^ width / 2) seen (places es ++ ps)
+      → Counted S es hs q seen before ps
+  legs plain lo hi ends seen before ps t at c near = counts S channelOf lo hi (steps-of frameHearing S leads-end) tt seen before ps t at c near
+  legs plain lo hi (here {es = es} {ds = ds} l rest) seen before ps t at c near =
+      let a = counts S channelOf lo hi (steps-of frameHearing S l) (all-agree channelOf K (map (callOf S) es)) seen before (places ds ++ ps) t at c
+      (window-split seen es ds ps near) in
+      joined a (legs plain lo hi rest (a .after) (a .leading) ps (a .state) (a .stands) (a .counting) (a .near))
+  legs plain lo hi (there {es = es} {ds = ds} l none rest) seen before ps t at c near =
+      let a = counts S unflagged lo hi (steps-of (hearingBy unflagged) S l) (each-agrees K plain S es none) seen before (places ds ++ ps) t at c
+      (window-split seen es ds ps near) in
+      joined a (legs plain lo hi rest (a .after) (a .leading) ps (a .state) (a .stands) (a .counting) (a .near))
+
+pub shared : Demand3Shared NoExpedited frameHearing
+shared K plain width fecf S lo hi r₀ r q long begins es hs l near =
+    counted-all S
+    (legs S plain lo hi l [] [] [] (Opened K width) (stands-opened K width r₀ r long begins) quiet
+    (subst (Window (256 ^ width / 2) []) (sym (append-nil (places es))) near))
+
+-- a leg at such a console, a restart, and a leg here
 pub updated : Demand3Updated NoExpedited frameHearing
-updated K plain width fecf S lo hi r₀ r long begins es hs m led none q restart ds gs z on near =
-    let a = counts S unflagged lo hi (steps-of (hearingBy unflagged) S led) (each-agrees K plain S es none) [] [] (places ds)
-    (Opened K width) (stands-opened K width r₀ r long begins) quiet near in
-    let at = restart-keeps restart K (a .state) (a .stands) in
-    let b = counts S channelOf lo hi (steps-of frameHearing S on) (all-agree channelOf K (map (callOf S) ds)) (a .after) (a .leading) [] (a .state) at
-    (a .counting) (subst (Window (256 ^ width / 2) (a .after)) (sym (append-nil (places ds))) (a .near)) in
-    let c = counted-all S b in
-    (ap (λ (l : List Handing). hs ++ l) (c .0) ∙ a .hands, c .1 ∙ ap lost (a .leads))
+updated K plain width fecf S lo hi r₀ r long begins es hs m led none q back ds gs z on near =
+    let run : Shares NoExpedited frameHearing S r (es ++ (ds ++ [])) (hs ++ (gs ++ [])) z = there led none (here (restart back on) ends) in
+    let same : places (es ++ (ds ++ [])) ≡ places es ++ places ds =
+    places-append es (ds ++ []) ∙ ap (λ (l : List (Event channelOf K width)). places es ++ places l) (append-nil ds) in
+    let d = shared K plain width fecf S lo hi r₀ r z long begins (es ++ (ds ++ [])) (hs ++ (gs ++ [])) run (subst (Window (256 ^ width / 2) []) (sym same) near) in (
+      ap (λ (l : List Handing). hs ++ l) (sym (append-nil gs)) ∙ d .0 ∙ ap (λ (ps : List ℕ). handings S (leaders [] ps)) same,
+      d .1 ∙ ap (λ (ps : List ℕ). lost (leaders [] ps)) same,
+    )
 
 -- a call that such a console can make: its channels have no flag
 abbrev pub WithoutFlag : Call → Type 0
@@ -105,47 +162,47 @@ WithoutFlag (opens k width) = k .«sequence_control_flag» ≡ SequenceControlle
 WithoutFlag (closes k) = k .«sequence_control_flag» ≡ SequenceControlledQoS
 
 -- it keeps to sequence-controlled channels, which form 1 says whole
-whole-hearing : (r : ChannelRecord) (s : List ℕ) (fecf : Bool) → Whole one r → Whole one (recordOf (hearingBy unflagged r s fecf))
+whole-hearing : (r : ChannelRecord) (s : List ℕ) (fecf : Bool) → Whole One r → Whole One (recordOf (hearingBy unflagged r s fecf))
 whole-hearing r s fecf whole =
-    frame-ways unflagged (λ (q : Kept FrameArrival). Whole one (recordOf q)) r s fecf (λ j vs. whole) (λ x e d. lacks-set one (r .slots) _ _ whole refl)
+    frame-ways unflagged (λ (q : Kept FrameArrival). Whole One (recordOf q)) r s fecf (λ j vs. whole) (λ x e d. lacks-set One (r .slots) _ _ whole refl)
 
 module _ (K : Channel) where
-  whole-frames : (fs : List (TransferFrame × List ℕ)) (r : ChannelRecord) (fecf : Bool) → Whole one r
-      → Whole one (heardAll channelOf (hearingBy unflagged) K r fs fecf .1)
+  whole-frames : (fs : List (TransferFrame × List ℕ)) (r : ChannelRecord) (fecf : Bool) → Whole One r
+      → Whole One (heardAll channelOf (hearingBy unflagged) K r fs fecf .1)
   unfolding heardAll
   whole-frames [] r fecf whole = whole
   whole-frames (f ∷ fs) r fecf whole = whole-frames fs (recordOf (hearingBy unflagged r (f .1) fecf)) fecf (whole-hearing r (f .1) fecf whole)
 
-  whole-call : (c : Call) (r : ChannelRecord) → WithoutFlag c → Whole one r → Whole one (called channelOf (hearingBy unflagged) K r c .1)
+  whole-call : (c : Call) (r : ChannelRecord) → WithoutFlag c → Whole One r → Whole One (called channelOf (hearingBy unflagged) K r c .1)
   whole-call (hears s fecf) r ok whole = whole-hearing r s fecf whole
   whole-call (hears-many s fecf) r ok whole = whole-frames (cut fecf s .frames) r fecf whole
   whole-call (opens k w) r ok whole =
-      opening-ways r k (λ (q : Kept (Unit {0})). Whole one (recordOf q)) w (λ j vs. whole)
-      (λ o. lacks-set one (r .slots) (vacant (r .slots)) (slotOf (Opened k w)) whole
+      opening-ways r k (λ (q : Kept (Unit {0})). Whole One (recordOf q)) w (λ j vs. whole)
+      (λ o. lacks-set One (r .slots) (vacant (r .slots)) (slotOf (Opened k w)) whole
       (ap (λ (x : BypassSequenceControlFlag). eqb (bypassNumber x) 1) ok))
   whole-call (closes k) r ok whole =
-      closing-ways r k (λ (q : Kept (Unit {0})). Whole one (recordOf q)) (λ j vs. whole)
-      (λ low. lacks-set one (r .slots) (find k (r .slots)) (slotOf Closed) whole refl)
+      closing-ways r k (λ (q : Kept (Unit {0})). Whole One (recordOf q)) (λ j vs. whole)
+      (λ low. lacks-set One (r .slots) (find k (r .slots)) (slotOf Closed) whole refl)
 
-  whole-calls : (cs : List Call) (r : ChannelRecord) → EachCall WithoutFlag cs → Whole one r → Whole one (run channelOf (hearingBy unflagged) K r cs)
+  whole-calls : (cs : List Call) (r : ChannelRecord) → EachCall WithoutFlag cs → Whole One r → Whole One (run channelOf (hearingBy unflagged) K r cs)
   unfolding run
   whole-calls [] r ok whole = whole
   whole-calls (c ∷ cs) r ok whole = whole-calls cs (called channelOf (hearingBy unflagged) K r c .1) (ok .1) (whole-call c r (ok .0) whole)
 
-  pub whole-run : (cs : List Call) → EachCall WithoutFlag cs → Whole one (run channelOf (hearingBy unflagged) K emptyRecord cs)
+  pub whole-run : (cs : List Call) → EachCall WithoutFlag cs → Whole One (run channelOf (hearingBy unflagged) K emptyRecord cs)
   unfolding anyLacks
   whole-run cs ok = whole-calls cs emptyRecord ok refl
 
 -- a restart brings back the channels that stood, whatever the form
-whole-restart : {r q : ChannelRecord} → Restart r q → Whole one r → Whole one q
-whole-restart (resumes {r = r} f fit w h) whole =
+whole-restart : {r q : ChannelRecord} → Restart r q → Whole One r → Whole One q
+whole-restart (resumes {r = r} f s h) whole =
     let d = restores-done f h in
     let l = d .unheard ++ d .heard in
-    let g = subst (λ (o : List ℕ). GoodForm f o (d .unheard) (d .heard)) (wrote-form w) (d .is-good) in
-    let all = all-entries f r (EntryWhole one) (none-lacks one (r .slots) whole) in
-    let e = subst (Each (EntryWhole one)) (sym (entries-back f r fit (wrote-whole w) (d .unheard) (d .heard) g)) all in
-    subst (Whole one) (d .is) (lacks-none one (restored l .slots) (each-restored l (g .few) (EntryWhole one) refl e))
-whole-restart (refuses f s h) whole = subst (Whole one) (restores-refused f h) whole
+    let o = origin s (d .unheard) (d .heard) (d .is-good) in
+    let all = all-entries (o .form) r (EntryWhole One) (none-lacks One (r .slots) whole) in
+    let e = subst (Each (EntryWhole One)) (sym (origin-entries o)) all in
+    subst (Whole One) (d .is) (lacks-none One (restored l .slots) (each-restored l (d .is-good .few) (EntryWhole One) refl e))
+whole-restart (refuses f s h) whole = subst (Whole One) (restores-refused f h) whole
 
 -- A run at such a console leads from a record that calls made to one that calls made, and from sequence-controlled channels to such: its own
 -- saving, which knows no 19, is that of `saving`, and what it wrote is restored here.
@@ -158,10 +215,10 @@ module _ {K : Channel} {width : ℕ} {fecf : Bool} (S : Sender channelOf K width
       (λ q k w craft made. made-opening q made k w craft) (λ q k ok made. made-closing q made k))
       (λ q z. made-restart) led
 
-  pub restores-before : Made r → EachCall Given (map (callOf S) es) → {s : List ℕ} → Wrote one m s → (found : ChannelRecord)
-      → Restoring one found s (keeping (done tt) (restored (entriesOf one m)))
+  pub restores-before : Made r → EachCall Given (map (callOf S) es) → {s : List ℕ} → Wrote One m s → (found : ChannelRecord)
+      → Restoring One found s (keeping (done tt) (restored (entriesOf One m)))
   restores-before made given w found = restores-wrote (made-before made given) w found
 
-  pub whole-before : Whole one r → EachCall WithoutFlag (map (callOf S) es) → Whole one m
+  pub whole-before : Whole One r → EachCall WithoutFlag (map (callOf S) es) → Whole One m
   whole-before =
-      leads-keep (hearingBy unflagged) S (Whole one) WithoutFlag (λ e q. whole-call K (callOf S e) q) (λ q z. whole-restart) led
+      leads-keep (hearingBy unflagged) S (Whole One) WithoutFlag (λ e q. whole-call K (callOf S e) q) (λ q z. whole-restart) led

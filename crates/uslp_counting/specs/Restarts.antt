@@ -11,8 +11,9 @@ use Rattle.uslp_record.specs.Slots.{emptyRecord}
 use Rattle.uslp_record.specs.Record.{Kept, keeping, opening, closing}
 use Rattle.uslp_record.specs.declared.Channel.{Channel}
 use Rattle.uslp_record.specs.declared.ChannelRecord.{ChannelRecord}
-use Rattle.uslp_form.specs.Form.{Form, Fitting}
-use Rattle.uslp_form.specs.Saved.{saving, Restoring}
+use Rattle.uslp_form.specs.declared.Form.{Form}
+use Rattle.uslp_form.specs.Form.{Fitting}
+use Rattle.uslp_form.specs.Saved.{saving, Restoring, Converting}
 use Rattle.uslp_hearing.specs.Hearing.{Naming, frameHearing}
 use Rattle.uslp_many.specs.Many.{manyHearing}
 use Rattle.uslp_counting.specs.Places.{leaders, Window, lost}
@@ -26,10 +27,23 @@ pub record Wrote (f : Form) (r : ChannelRecord) (s : List ℕ) : Type 0 where
   pub saves : saving f r buffer ≡ leaving (done count) left
   pub octets : take count left ≡ s
 
--- What a restoring does within a run. Octets that saving r wrote are restored, whatever record was found then: the run goes on from r, and
--- what happened between is no part of it. Or the restoring is refused, and nothing is altered.
+-- octets that converting s wrote, into whatever buffer
+pub record Converted (f g : Form) (s t : List ℕ) : Type 0 where
+  pub buffer : List ℕ
+  pub left : List ℕ
+  pub count : ℕ
+  pub converts : Converting f g s buffer (leaving (done count) left)
+  pub octets : take count left ≡ t
+
+-- octets of a form that count as what saving r wrote: those octets, and what conversions make of them, one after the other
+pub data SavingOf (r : ChannelRecord) : Form → List ℕ → Type 0 where
+  wrote : {f : Form} {s : List ℕ} → Fitting f r → Wrote f r s → SavingOf r f s
+  converted : {f g : Form} {s t : List ℕ} → SavingOf r f s → Converted f g s t → SavingOf r g t
+
+-- What a restoring does within a run. Octets that count as what saving r wrote are restored, whatever record was found then: the run goes on
+-- from r, and what happened between is no part of it. Or the restoring is refused, and nothing is altered.
 pub data Restart : ChannelRecord → ChannelRecord → Type 0 where
-  resumes : {r found q : ChannelRecord} {s : List ℕ} (f : Form) → Fitting f r → Wrote f r s → Restoring f found s (keeping (done tt) q) → Restart r q
+  resumes : {r found q : ChannelRecord} {s : List ℕ} (f : Form) → SavingOf r f s → Restoring f found s (keeping (done tt) q) → Restart r q
   refuses : {r q : ChannelRecord} {k : ℕ} {vs : List ℕ} (f : Form) (s : List ℕ) → Restoring f r s (keeping (refused k vs) q) → Restart r q
 
 -- From the record r, calls that stand for the events es lead over restarts to the record q and hand hs on, and no hearing of the channel's

@@ -52,3 +52,23 @@ Demand3Updated Ok H =
     → (ds : List (Event channelOf K width)) (gs : List Handing) (z : ChannelRecord) → Leads H S q ds gs z
     → Window (256 ^ width / 2) [] (places es ++ places ds)
     → (hs ++ gs ≡ handings S (leaders [] (places es ++ places ds))) × (missingFor K z ≡ lost (leaders [] (places es ++ places ds)))
+
+-- A run over consoles of both kinds: its legs are here, heard by H, or at such a console, each event there as `Ok` asks. From the one to the other the
+-- record goes as octets, converted where need be: by a restart, which is a step of a leg.
+module _ (Ok : (K : Channel) (width : ℕ) → Event channelOf K width → Type 0) (H : Hearer) {K : Channel} {width : ℕ} {fecf : Bool}
+    (S : Sender channelOf K width fecf) where
+  pub data Shares : ChannelRecord → List (Event channelOf K width) → List Handing → ChannelRecord → Type 0 where
+    ends : {r : ChannelRecord} → Shares r [] [] r
+    here : {r m q : ChannelRecord} {es ds : List (Event channelOf K width)} {hs gs : List Handing}
+        → Leads H S r es hs m → Shares m ds gs q → Shares r (es ++ ds) (hs ++ gs) q
+    there : {r m q : ChannelRecord} {es ds : List (Event channelOf K width)} {hs gs : List Handing}
+        → Leads (hearingBy unflagged) S r es hs m → EachEvent (Ok K width) es → Shares m ds gs q → Shares r (es ++ ds) (hs ++ gs) q
+
+-- Demand 3 of a sequence-controlled channel over such a run: it is as if all had happened here.
+abbrev pub Demand3Shared : ((K : Channel) (width : ℕ) → Event channelOf K width → Type 0) → Hearer → Type 0
+Demand3Shared Ok H =
+    (K : Channel) → K .«sequence_control_flag» ≡ SequenceControlledQoS → (width : ℕ) (fecf : Bool) (S : Sender channelOf K width fecf)
+    → 1 ≤ width → width ≤ 7
+    → (r₀ r q : ChannelRecord) → length (r₀ .slots) ≡ 8 → opening r₀ K width ≡ keeping (done tt) r
+    → (es : List (Event channelOf K width)) (hs : List Handing) → Shares Ok H S r es hs q → Window (256 ^ width / 2) [] (places es)
+    → (hs ≡ handings S (leaders [] (places es))) × (missingFor K q ≡ lost (leaders [] (places es)))

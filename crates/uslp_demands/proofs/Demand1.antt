@@ -25,9 +25,9 @@ use Rattle.uslp_writer.specs.declared.TransferFrameCreatorWithReservedData.{Tra
 use Rattle.uslp_writer.specs.declared.ReservedAnswer.the-variants as reserved-answer
 use Rattle.uslp_kinds.specs.declared.DoneAnswer.the-variants as done-answer
 use Rattle.uslp_record.specs.declared.ChannelRecord.{ChannelRecord}
-use Rattle.uslp_form.specs.Form.{anyLacks, formOf}
-use Rattle.uslp_form.specs.Form.Form.{one}
-use Rattle.uslp_form.specs.Saved.{saving}
+use Rattle.uslp_form.specs.declared.Form.{Form}
+use Rattle.uslp_form.proofs.Claims.{saving-kept}
+use Rattle.uslp_form.proofs.Converted.{converting-kept}
 use Rattle.uslp_form.proofs.Rows.{restores-refused}
 use Rattle.uslp_listing.specs.Listing.{listing, room, listingOver}
 use Rattle.uslp_lent.specs.Setting.{headerLeft, headerOff}
@@ -43,6 +43,7 @@ use Rattle.uslp_demands.proofs.OfDataFieldHeader as of-field
 use Rattle.uslp_demands.proofs.OfWriter.{fn-write-to-slice, fn-new, fn-fill, fn-finish}
 use Rattle.uslp_demands.proofs.OfIntake.{Takes}
 use Rattle.uslp_demands.proofs.OfSaved.{fn-save, fn-restore}
+use Rattle.uslp_demands.proofs.OfConverting.{fn-convert}
 use Rattle.uslp_demands.proofs.OfListing.{fn-list}
 
 -- the last check of a writing: room
@@ -104,13 +105,15 @@ module _ (r : Refusal) (s : RefT (List ℕ)) (left : List ℕ) where
       (listing (now recording) ++ drop (length (listing (now recording))) (now s)) (now s)
       (sym e)
 
-  pub save-kept : (κs : Lfts 1) (q : ChannelRecord)
-      → Allows fn-save κs (q, (s, tt)) (Refused r, (tt, (left, tt)))
+  pub save-kept : (κs : Lfts 1) (q : ChannelRecord) (f : Form)
+      → Allows fn-save κs (q, (f, (s, tt))) (Refused r, (tt, (tt, (left, tt))))
       → left ≡ now s
-  unfolding saving
-  save-kept κs q e =
-      let n = length (formOf one q) in
-      refused-keeps (firstOf ((anyLacks one (q .slots), refused 19 []) ∷ short (now s) n) (done n)) (formOf one q ++ drop n (now s)) (now s) (sym e)
+  save-kept κs q f e = saving-kept f q (now s) (sym e)
+
+  pub convert-kept : (κs : Lfts 2) (f g : Form) (octets : RefT (List ℕ))
+      → Allows fn-convert κs (f, (octets, (g, (s, tt)))) (Refused r, (tt, (tt, (tt, (left, tt)))))
+      → left ≡ now s
+  convert-kept κs f g octets e = converting-kept f g (now octets) (now s) e
 
 -- the intake's own refusals
 pub take-block-kept : (r : Refusal) (s left : List ℕ) (held : ℕ) (block : List ℕ) (fecf : Bool) → Takes s held block fecf (intake-answer.Refused r) left
@@ -126,10 +129,10 @@ pub stop-kept : (s left : List ℕ) (held : ℕ) (block : List ℕ) (fecf : Bool
     → (m ≡ held + n) × (left ≡ take held s ++ take n block ++ drop (held + n) s)
 stop-kept s left held block fecf n m r e = (stop-holds fecf s held block left (sym e), writes-taken fecf s held block left (sym e))
 
-pub restore-kept : (r : Refusal) (κs : Lfts 1) (q left : ChannelRecord) (s : RefT (List ℕ))
-    → Allows fn-restore κs (q, (s, tt)) (record { answer = done-answer.Refused r; next = left }, (tt, (tt, tt)))
+pub restore-kept : (r : Refusal) (κs : Lfts 1) (q left : ChannelRecord) (f : Form) (s : RefT (List ℕ))
+    → Allows fn-restore κs (q, (f, (s, tt))) (record { answer = done-answer.Refused r; next = left }, (tt, (tt, (tt, tt))))
     → left ≡ q
-restore-kept r κs q left s e = sym (restores-refused one e)
+restore-kept r κs q left f s e = sym (restores-refused f e)
 
 -- a setter over a lent header leaves what its decision says: on a refusal the header that it found
 setting-kept : (h left : PrimaryHeader) (o : Outcome PrimaryHeader) {k : ℕ} {vs : List ℕ} → left ≡ headerLeft h o → refused k vs ≡ headerOff o → left ≡ h

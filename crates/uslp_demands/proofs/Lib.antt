@@ -14,6 +14,7 @@ pub mod OfRecord
 pub mod OfHearing
 pub mod OfMany
 pub mod OfSaved
+pub mod OfConverting
 pub mod OfLentHeader
 pub mod OfLentReader
 pub mod PassedOn

@@ -32,9 +32,9 @@ use Rattle.uslp_counting.specs.History as histories
 use Rattle.uslp_counting.specs.Demand.{Demand3}
 use Rattle.uslp_counting.specs.Restarts.{Demand3Over}
 use Rattle.uslp_counting.specs.History.Call.{hears-many}
-use Rattle.uslp_counting.specs.Updated.{NoExpedited, Demand3Updated}
+use Rattle.uslp_counting.specs.Updated.{NoExpedited, Demand3Updated, Demand3Shared}
 use Rattle.uslp_counting.proofs.Theorem.{counted-over, over}
-use Rattle.uslp_counting.proofs.Updated.{updated}
+use Rattle.uslp_counting.proofs.Updated.{shared, updated}
 use Rattle.uslp_counting.proofs.Called.{many-called}
 use Rattle.uslp_many.specs.Many.{noFrames, KeptMany, paperMany}
 use Rattle.uslp_many.specs.Singly.{Singly}
@@ -86,6 +86,10 @@ hearer-demand f k = over channelOf (hearerOf f) (hearer-demand-over f k)
 -- and so does what it hears after the octets of a console not yet updated were restored
 pub hearer-updated : (f : Program fn-hear) → Keeps fn-hear f → Demand3Updated NoExpedited (hearerOf f)
 hearer-updated f k = subst (Demand3Updated NoExpedited) (λ i r s fecf. sym (k ([], tt) (r, (at s, (fecf, tt)))) i) updated
+
+-- and what it hears in its legs of a run that consoles of both kinds share
+pub hearer-shared : (f : Program fn-hear) → Keeps fn-hear f → Demand3Shared NoExpedited (hearerOf f)
+hearer-shared f k = subst (Demand3Shared NoExpedited) (λ i r s fecf. sym (k ([], tt) (r, (at s, (fecf, tt)))) i) shared
 
 -- whatever keeps the promise of the call for many frames comes to what hearing them one at a time comes to, for every FECF choice
 pub many-single : (g : Program fn-hear-many) → Keeps fn-hear-many g → (r : ChannelRecord) (s : List ℕ) (fecf : Bool) → AreOctets s

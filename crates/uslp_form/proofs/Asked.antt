@@ -14,7 +14,8 @@ use Rattle.uslp_record.proofs.Slots.{seek-passes}
 use Rattle.uslp_record.proofs.Calls.{showing-none, showing-done}
 use Rattle.uslp_record.proofs.Keeps.{total-fits}
 use Rattle.uslp_record.specs.Made.{Made}
-use Rattle.uslp_form.specs.Form.{Form, Whole, formOf, restored}
+use Rattle.uslp_form.specs.declared.Form.{Form}
+use Rattle.uslp_form.specs.Form.{Whole, formOf, restored}
 use Rattle.uslp_form.proofs.Sorted.{missed, missed-sorted}
 use Rattle.uslp_form.proofs.Trips.{unheardOf, heardOf, entriesOf, good-saved, found-again, none-again, heard-again, made-good}
 

@@ -5,14 +5,20 @@ use mathlib.Core.Bool.{Bool, true, false}
 use mathlib.Core.List.{List, [], _∷_, _++_, append-assoc, append-nil}
 use Prim.Native.Nat.{ℕ, suc, _+_, _*_, _<_, _≤_}
 use native.Mathlib.Omega.{arith}
+use native.Mathlib.Nat.{mul-le-mul-right}
 use native.Mathlib.Decide.{decLt}
+use lib.Dec.{ltb}
 use lib.ListN.{length, drop, replicate, length-append}
 use borrow.Author.Tests.{le-ltb, lt-ltb}
 use Rattle.uslp_octets.specs.Octets.{valueOf, pack}
-use Rattle.uslp_kinds.specs.Outcome.{done, refused, leaving}
+use Rattle.uslp_kinds.specs.Outcome.{done, refused, leaving, firstOf}
 use Rattle.uslp_kinds.specs.declared.BypassSequenceControlFlag.the-variants.{SequenceControlledQoS}
+use Rattle.uslp_kinds.specs.Answers.{paperLength}
+use Rattle.uslp_kinds.specs.declared.LengthAnswer.{LengthAnswer}
+use Rattle.uslp_kinds.specs.declared.LengthAnswer.the-variants.{Done}
 use Rattle.uslp_kinds.proofs.Back.{leaving-one}
-use Rattle.uslp_kinds.proofs.Outcomes.{not-done, done-one}
+use Rattle.uslp_kinds.proofs.Cases.{bypass-lt}
+use Rattle.uslp_kinds.proofs.Outcomes.{not-done, done-one, refused-keeps}
 use Rattle.uslp_record.proofs.Back.{keeping-one}
 use Rattle.uslp_record.specs.Slots.{slotOf}
 use Rattle.uslp_record.specs.Record.{Kept, keeping, showing, consoleTotal}
@@ -22,15 +28,17 @@ use Rattle.uslp_record.specs.declared.SlotState.the-variants.{Closed, Opened, H
 use Rattle.uslp_record.specs.declared.ChannelRecord.{ChannelRecord}
 use Rattle.uslp_form.specs.Entries.{isOpened, isHeard}
 use Rattle.uslp_record.specs.Made.{Made}
-use Rattle.uslp_form.specs.Form.{Form, columns, row, anyLacks, Whole, rows, section, form, insert, sorted, formOf, GoodForm, restored}
-use Rattle.uslp_form.specs.Form.Form.{one}
+use Rattle.uslp_form.specs.declared.Form.{Form}
+use Rattle.uslp_form.specs.Form.{flagColumn, columns, row, anyLacks, Whole, rows, section, form, insert, sorted, formOf, GoodForm, restored}
+use Rattle.uslp_form.specs.declared.Form.the-variants.{One, Two}
+use Rattle.uslp_form.specs.Said.{heardLong}
 use Rattle.uslp_form.specs.Saved.{saving, Restoring}
 use Rattle.uslp_form.specs.Saved.Restoring.{good, bad}
 use Rattle.uslp_form.proofs.Flags.{Expedited, lacks-exactly}
 use Rattle.uslp_form.proofs.Sorted.{not-both, sorted-length}
 use Rattle.uslp_form.proofs.Trips.{unheardOf, heardOf, entriesOf, good-saved, saved-again, whole-good}
 use Rattle.uslp_form.proofs.Asked.{asked-again, total-again}
-use Rattle.uslp_form.proofs.Rows.{good-unheard, good-heard, good-one, section-opened, section-heard, restores-done}
+use Rattle.uslp_form.proofs.Rows.{opened-size, heard-size, good-unheard, good-heard, good-one, section-opened, section-heard, restores-done}
 
 -- saving: 19 where the form lacks the flag of an open channel, whatever room there is; else with room it is done, the octets behind the form
 -- stay; else 2, and nothing is written
@@ -69,14 +77,33 @@ module _ (f : Form) (r : ChannelRecord) (b : List ℕ) where
   saving-fits e =
       let d = saves e in omega (arith, d .count, ap length (d .left), length-append (formOf f r) (drop (length (formOf f r)) b))
 
--- 19 exactly if an open channel is expedited
-pub lacks-of : (r : ChannelRecord) (b : List ℕ) {vs t : List ℕ} → saving one r b ≡ leaving (refused 19 vs) t → Expedited r
-lacks-of r b {vs} {t} e = go (anyLacks one (r .slots)) refl (decLt (length b) (length (formOf one r)))
+-- the same of the answer of a call
+pub saved-within : (f : Form) (r : ChannelRecord) (b t : List ℕ) (a : LengthAnswer) (n : ℕ) → a ≡ Done n → leaving (paperLength a) t ≡ saving f r b → n ≤ length t
+saved-within f r b t a n e h = saving-fits f r b (ap (λ (x : LengthAnswer). leaving (paperLength x) t) (sym e) ∙ h)
+
+-- refused, it leaves what it found
+pub saving-kept : (f : Form) (r : ChannelRecord) (b : List ℕ) {n : ℕ} {vs t : List ℕ} → saving f r b ≡ leaving (refused n vs) t → t ≡ b
+unfolding saving
+saving-kept f r b e =
+    let n = length (formOf f r) in
+    refused-keeps
+    (firstOf ((anyLacks f (r .slots), refused 19 []) ∷ (ltb (length b) n, refused 2 (length b ∷ n ∷ [])) ∷ []) (done n))
+    (formOf f r ++ drop n b) b e
+
+-- 19 is given only where the form lacks a flag: form 1 exactly if an open channel is expedited
+pub saving-whole : (f : Form) (r : ChannelRecord) (b : List ℕ) → Whole f r → {vs t : List ℕ} → saving f r b ≡ leaving (refused 19 vs) t → ⊥
+saving-whole f r b w {vs} {t} e = go (decLt (length b) (length (formOf f r)))
   where
-    go : (x : Bool) → anyLacks one (r .slots) ≡ x → Dec (length b < length (formOf one r)) → Expedited r
-    go true w h = lacks-exactly r .0 w
-    go false w (yes h) = let d = leaving-one (sym (saving-short one r b w h) ∙ e) .0 in let z : _≡_ {A = ℕ} 2 19 = cc in absurd (omega arith)
-    go false w (no h) = absurd (not-done (sym (leaving-one (sym (saving-done one r b w (omega arith)) ∙ e) .0)))
+    go : Dec (length b < length (formOf f r)) → ⊥
+    go (yes h) = let d = leaving-one (sym (saving-short f r b w h) ∙ e) .0 in let z : _≡_ {A = ℕ} 2 19 = cc in omega arith
+    go (no h) = not-done (sym (leaving-one (sym (saving-done f r b w (omega arith)) ∙ e) .0))
+
+pub lacks-of : (r : ChannelRecord) (b : List ℕ) {vs t : List ℕ} → saving One r b ≡ leaving (refused 19 vs) t → Expedited r
+lacks-of r b {vs} {t} e = go (anyLacks One (r .slots)) refl
+  where
+    go : (x : Bool) → anyLacks One (r .slots) ≡ x → Expedited r
+    go true w = lacks-exactly r .0 w
+    go false w = absurd (saving-whole One r b w e)
 
 -- restoring: done exactly if the octets are a good form, and then with the record of its entries (`restores-done` is the way back)
 module _ (f : Form) (r : ChannelRecord) (s : List ℕ) where
@@ -137,22 +164,38 @@ left-over f r s us hs x t o g = restoring-bad f r (s ++ (x ∷ t)) o (λ vs gs k
         let z : suc (length t) ≡ 0 = ap length (b .1) in
         omega arith
 
--- no form has more than 354 octets, and eight channels that were heard have as many
-row-long : (x : SlotState) → length (pack (row one x)) ≤ 44
-row-long Closed = omega arith
-row-long (Opened k w) = omega arith
-row-long (Heard k w t) = omega arith
+-- no form has more octets than two counts and eight channels that were heard: 354 in form 1, 362 in form 2; and eight such channels have as many
+row-long : (f : Form) (x : SlotState) → length (pack (row f x)) ≤ heardLong f
+row-long f Closed = omega arith
+row-long f (Opened k w) = omega (arith, opened-size f k w)
+row-long f (Heard k w t) = omega (arith, heard-size f k w t)
 
-rows-long : (l : List SlotState) → length (rows one l) ≤ 44 * length l
+rows-long : (f : Form) (l : List SlotState) → length (rows f l) ≤ length l * heardLong f
 unfolding rows
-rows-long [] = omega arith
-rows-long (x ∷ l) = omega (arith, length-append (pack (row one x)) (rows one l), row-long x, rows-long l)
+rows-long f [] = omega arith
+rows-long f (x ∷ l) = omega (arith, length-append (pack (row f x)) (rows f l), row-long f x, rows-long f l)
 
-pub form-long : (r : ChannelRecord) → length (r .slots) ≡ 8 → length (formOf one r) ≤ 354
-form-long r long =
-    let us = unheardOf one r in
-    let hs = heardOf one r in
-    omega (arith, length-append (section one us) (section one hs), rows-long us, rows-long hs, sorted-length one isOpened isHeard not-both (r .slots))
+eight-long : (f : Form) (n m : ℕ) → n + m ≤ 8 → n * heardLong f + m * heardLong f ≤ 8 * heardLong f
+eight-long One n m h = omega arith
+eight-long Two n m h = omega arith
+
+pub form-long : (f : Form) (r : ChannelRecord) → length (r .slots) ≡ 8 → length (formOf f r) ≤ 2 + 8 * heardLong f
+form-long f r long =
+    let us = unheardOf f r in
+    let hs = heardOf f r in
+    let few : length us + length hs ≤ 8 = omega (arith, sorted-length f isOpened isHeard not-both (r .slots)) in
+    omega (
+      arith,
+      length-append (section f us) (section f hs),
+      rows-long f us,
+      rows-long f hs,
+      eight-long f (length us) (length hs) few,
+    )
+
+-- so none has more than 362
+pub form-within : (f : Form) (r : ChannelRecord) → length (r .slots) ≡ 8 → length (formOf f r) ≤ 362
+form-within One r long = omega (arith, form-long One r long)
+form-within Two r long = omega (arith, form-long Two r long)
 
 abbrev eightHeard : ChannelRecord
 eightHeard = record {
@@ -161,21 +204,74 @@ eightHeard = record {
       (record { last = 258; «handed_on» = 3; missing = 1; repeats = 0; late = 0 })));
 }
 
-pub form-longest : length (formOf one eightHeard) ≡ 354
+pub form-longest : (f : Form) → length (formOf f eightHeard) ≡ 2 + 8 * heardLong f
 unfolding rows insert sorted
-form-longest = refl
+form-longest One = refl
+form-longest Two = refl
 
--- form 1 ascends by spacecraft, then channel
-pub rank-order : (a b : Channel) → a .«vc_id» < 256 → b .«vc_id» < 256
-    → (valueOf (columns one a) < valueOf (columns one b)) ↔ ((a .«spacecraft_id» < b .«spacecraft_id») ⊎
-    ((a .«spacecraft_id» ≡ b .«spacecraft_id») × (a .«vc_id» < b .«vc_id»)))
-rank-order a b h k = (there, back)
+-- two numbers of two digits each, the first counting most
+module _ (m x y p q : ℕ) (a : p < m) (b : q < m) where
+  lex-there : x * m + p < y * m + q → (x < y) ⊎ ((x ≡ y) × (p < q))
+  lex-there h = go (decLt x y) (decLt y x)
+    where
+      go : Dec (x < y) → Dec (y < x) → (x < y) ⊎ ((x ≡ y) × (p < q))
+      go (yes u) v = inl u
+      go (no u) (yes v) = let z : suc y * m ≤ x * m = mul-le-mul-right m v in absurd (omega arith)
+      go (no u) (no v) = let e : x ≡ y = omega arith in inr (e, omega (arith, ap (λ (n : ℕ). n * m) e))
+
+  lex-back : (x < y) ⊎ ((x ≡ y) × (p < q)) → x * m + p < y * m + q
+  lex-back (inl u) = let z : suc x * m ≤ y * m = mul-le-mul-right m u in omega arith
+  lex-back (inr u) = omega (arith, ap (λ (n : ℕ). n * m) (u .0), u .1)
+
+-- a form ascends by spacecraft, then channel, then flag where it has the column
+abbrev Before : Form → Channel → Channel → Type 0
+Before f a b =
+    (a .«spacecraft_id» < b .«spacecraft_id») ⊎ ((a .«spacecraft_id» ≡ b .«spacecraft_id») ×
+    ((a .«vc_id» < b .«vc_id») ⊎ ((a .«vc_id» ≡ b .«vc_id») × (valueOf (flagColumn f a) < valueOf (flagColumn f b)))))
+
+-- what a column counts before the flag's
+scale : Form → ℕ
+scale One = 1
+scale Two = 256
+
+module _ (f : Form) (k : Channel) where
+  low : ℕ
+  low = k .«vc_id» * scale f + valueOf (flagColumn f k)
+
+  in-columns : valueOf (columns f k) ≡ k .«spacecraft_id» * (256 * scale f) + low
+  unfolding scale low
+  in-columns = go f
+    where
+      go : (g : Form) → valueOf (columns g k) ≡ k .«spacecraft_id» * (256 * scale g) + (k .«vc_id» * scale g + valueOf (flagColumn g k))
+      go One = omega arith
+      go Two = omega arith
+
+  flag-small : valueOf (flagColumn f k) < scale f
+  unfolding scale
+  flag-small = go f
+    where
+      go : (g : Form) → valueOf (flagColumn g k) < scale g
+      go One = omega arith
+      go Two = omega (arith, bypass-lt (k .«sequence_control_flag»))
+
+  low-small : k .«vc_id» < 256 → low < 256 * scale f
+  unfolding low
+  low-small h = let z : suc (k .«vc_id») * scale f ≤ 256 * scale f = mul-le-mul-right (scale f) h in omega (arith, flag-small)
+
+pub rank-order : (f : Form) (a b : Channel) → a .«vc_id» < 256 → b .«vc_id» < 256
+    → (valueOf (columns f a) < valueOf (columns f b)) ↔ Before f a b
+unfolding low
+rank-order f a b h k = (
+  λ e. go (lex-there (256 * scale f) _ _ _ _ (low-small f a h) (low-small f b k) (omega (arith, in-columns f a, in-columns f b))),
+  λ u.
+      let z = lex-back (256 * scale f) (a .«spacecraft_id») (b .«spacecraft_id») _ _ (low-small f a h) (low-small f b k) (back u) in
+      omega (arith, in-columns f a, in-columns f b),
+)
   where
-    there : valueOf (columns one a) < valueOf (columns one b)
-        → (a .«spacecraft_id» < b .«spacecraft_id») ⊎ ((a .«spacecraft_id» ≡ b .«spacecraft_id») × (a .«vc_id» < b .«vc_id»))
-    there e = elim (decLt (a .«spacecraft_id») (b .«spacecraft_id»)) [ yes u ↦ inl u | no u ↦ inr (omega arith, omega arith) ]
+    go : (a .«spacecraft_id» < b .«spacecraft_id») ⊎ ((a .«spacecraft_id» ≡ b .«spacecraft_id») × (low f a < low f b)) → Before f a b
+    go (inl u) = inl u
+    go (inr u) = inr (u .0, lex-there (scale f) _ _ _ _ (flag-small f a) (flag-small f b) (u .1))
 
-    back : (a .«spacecraft_id» < b .«spacecraft_id») ⊎ ((a .«spacecraft_id» ≡ b .«spacecraft_id») × (a .«vc_id» < b .«vc_id»))
-        → valueOf (columns one a) < valueOf (columns one b)
-    back (inl u) = omega arith
-    back (inr u) = omega (arith, u .0, u .1)
+    back : Before f a b → (a .«spacecraft_id» < b .«spacecraft_id») ⊎ ((a .«spacecraft_id» ≡ b .«spacecraft_id») × (low f a < low f b))
+    back (inl u) = inl u
+    back (inr u) = inr (u .0, lex-back (scale f) _ _ _ _ (flag-small f a) (flag-small f b) (u .1))

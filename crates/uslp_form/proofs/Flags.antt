@@ -1,4 +1,4 @@
--- Which flags a form lacks: form 1 that of an expedited channel, and of no other.
+-- Which flags a form lacks: form 1 that of an expedited channel, and of no other; form 2 none.
 use mathlib.Core.Path.{_≡_, refl, sym, _∙_, ap}
 use mathlib.Core.Logic.{_↔_}
 use mathlib.Core.Bool.{Bool, true, false, _||_}
@@ -17,8 +17,9 @@ use Rattle.uslp_record.specs.declared.Slot.{Slot}
 use Rattle.uslp_record.specs.declared.ChannelRecord.{ChannelRecord}
 use Rattle.uslp_record.proofs.Slots.{true-false, same-self, same-one}
 use Rattle.uslp_form.specs.Entries.{Each}
-use Rattle.uslp_form.specs.Form.{Form, lacksFlag, entryLacks, anyLacks, EntryWhole, Whole}
-use Rattle.uslp_form.specs.Form.Form.{one}
+use Rattle.uslp_form.specs.declared.Form.{Form}
+use Rattle.uslp_form.specs.Form.{lacksFlag, entryLacks, anyLacks, EntryWhole, Whole}
+use Rattle.uslp_form.specs.declared.Form.the-variants.{One, Two}
 use Rattle.uslp_form.proofs.Each.{statesIn}
 
 pub not-expedited : (x : BypassSequenceControlFlag) → eqb (bypassNumber x) 1 ≡ false → x ≡ SequenceControlledQoS
@@ -30,7 +31,7 @@ is-expedited SequenceControlledQoS e = absurd (true-false e refl)
 is-expedited ExpeditedQoS e = refl
 
 -- so a channel whose flag form 1 does not lack is known from its two columns
-pub sequence-one : (k : Channel) → lacksFlag one k ≡ false
+pub sequence-one : (k : Channel) → lacksFlag One k ≡ false
     → record { «spacecraft_id» = k .«spacecraft_id»; «vc_id» = k .«vc_id»; «sequence_control_flag» = SequenceControlledQoS } ≡ k
 sequence-one k e =
     λ i. record {
@@ -99,10 +100,10 @@ pub record Expedited (r : ChannelRecord) : Type 0 where
   pub expedited : channel .«sequence_control_flag» ≡ ExpeditedQoS
 
 -- form 1 lacks a flag exactly then
-pub lacks-exactly : (r : ChannelRecord) → (anyLacks one (r .slots) ≡ true) ↔ Expedited r
-lacks-exactly r = (λ e. let h = any-lacks one (r .slots) e in there (h .at) (stateAt r (h .at)) refl (h .lacks), back)
+pub lacks-exactly : (r : ChannelRecord) → (anyLacks One (r .slots) ≡ true) ↔ Expedited r
+lacks-exactly r = (λ e. let h = any-lacks One (r .slots) e in there (h .at) (stateAt r (h .at)) refl (h .lacks), back)
   where
-    there : (i : ℕ) (t : SlotState) → stateAt r i ≡ t → entryLacks one t ≡ true → Expedited r
+    there : (i : ℕ) (t : SlotState) → stateAt r i ≡ t → entryLacks One t ≡ true → Expedited r
     there i Closed e d = absurd (true-false d refl)
     there i (Opened k w) e d = record {
       at = i;
@@ -117,18 +118,31 @@ lacks-exactly r = (λ e. let h = any-lacks one (r .slots) e in there (h .at) (st
       expedited = is-expedited (k .«sequence_control_flag») d;
     }
 
-    open-lacks : (k : Channel) (t : SlotState) → stateHolds k t ≡ true → k .«sequence_control_flag» ≡ ExpeditedQoS → entryLacks one t ≡ true
+    open-lacks : (k : Channel) (t : SlotState) → stateHolds k t ≡ true → k .«sequence_control_flag» ≡ ExpeditedQoS → entryLacks One t ≡ true
     open-lacks k Closed h e = absurd (true-false h refl)
-    open-lacks k (Opened c w) h e = ap (lacksFlag one) (same-one c k h) ∙ ap (λ (x : BypassSequenceControlFlag). eqb (bypassNumber x) 1) e
-    open-lacks k (Heard c w t) h e = ap (lacksFlag one) (same-one c k h) ∙ ap (λ (x : BypassSequenceControlFlag). eqb (bypassNumber x) 1) e
+    open-lacks k (Opened c w) h e = ap (lacksFlag One) (same-one c k h) ∙ ap (λ (x : BypassSequenceControlFlag). eqb (bypassNumber x) 1) e
+    open-lacks k (Heard c w t) h e = ap (lacksFlag One) (same-one c k h) ∙ ap (λ (x : BypassSequenceControlFlag). eqb (bypassNumber x) 1) e
 
-    back : Expedited r → anyLacks one (r .slots) ≡ true
-    back x = at-lacks one (r .slots) (x .at) (open-lacks (x .channel) (stateAt r (x .at)) (x .holds) (x .expedited))
+    back : Expedited r → anyLacks One (r .slots) ≡ true
+    back x = at-lacks One (r .slots) (x .at) (open-lacks (x .channel) (stateAt r (x .at)) (x .holds) (x .expedited))
 
 -- and says all open channels whole exactly if none is expedited
-pub whole-exactly : (r : ChannelRecord) → Whole one r ↔ (Expedited r → ⊥)
-whole-exactly r = (λ whole x. true-false (lacks-exactly r .1 x) whole, λ none. go none (anyLacks one (r .slots)) refl)
+pub whole-exactly : (r : ChannelRecord) → Whole One r ↔ (Expedited r → ⊥)
+whole-exactly r = (λ whole x. true-false (lacks-exactly r .1 x) whole, λ none. go none (anyLacks One (r .slots)) refl)
   where
-    go : (Expedited r → ⊥) → (b : Bool) → anyLacks one (r .slots) ≡ b → b ≡ false
+    go : (Expedited r → ⊥) → (b : Bool) → anyLacks One (r .slots) ≡ b → b ≡ false
     go none true e = absurd (none (lacks-exactly r .0 e))
     go none false e = refl
+
+-- form 2 says every channel whole
+pub entry-two : (x : SlotState) → EntryWhole Two x
+entry-two Closed = refl
+entry-two (Opened k w) = refl
+entry-two (Heard k w t) = refl
+
+pub whole-two : (r : ChannelRecord) → Whole Two r
+whole-two r = lacks-none Two (r .slots) (go (statesIn (r .slots)))
+  where
+    go : (l : List SlotState) → Each (EntryWhole Two) l
+    go [] = tt
+    go (x ∷ l) = (entry-two x, go l)

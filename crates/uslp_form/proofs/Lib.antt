@@ -6,4 +6,5 @@ pub mod Trips
 pub mod Asked
 pub mod Rows
 pub mod Claims
+pub mod Converted
 pub mod Wrong

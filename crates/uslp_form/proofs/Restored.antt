@@ -28,6 +28,10 @@ pub each-slots : (P : SlotState → Type 0) (l : List SlotState) (m : List Slot)
 each-slots P [] m e h = h
 each-slots P (x ∷ l) m e h = (e .0, each-slots P l m (e .1) h)
 
+pub slots-each : (P : SlotState → Type 0) (l : List SlotState) (m : List Slot) → Each P (statesIn (map slotOf l ++ m)) → Each P l
+slots-each P [] m e = tt
+slots-each P (x ∷ l) m e = (e .0, slots-each P l m (e .1))
+
 pub each-closed : (P : SlotState → Type 0) (n : ℕ) → P Closed → Each P (statesIn (replicate n (slotOf Closed)))
 each-closed P zero c = tt
 each-closed P (suc n) c = (c, each-closed P n c)

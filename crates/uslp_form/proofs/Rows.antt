@@ -9,6 +9,8 @@ use lib.Seq.{drop-at}
 use Rattle.uslp_octets.specs.Octets.{Field, Fits, bitsIn, valueOf, octets, pack, unpack, named}
 use Rattle.uslp_octets.proofs.Laws.{length-octets, unpack-pack}
 use Rattle.uslp_kinds.specs.Outcome.{done, refused}
+use Rattle.uslp_kinds.specs.Kinds.{bypassOf}
+use Rattle.uslp_kinds.proofs.Cases.{bypass-back, bypass-lt}
 use Rattle.uslp_record.specs.Record.{Kept, keeping}
 use Rattle.uslp_record.specs.declared.Channel.{Channel}
 use Rattle.uslp_record.specs.declared.Totals.{Totals}
@@ -18,13 +20,15 @@ use Rattle.uslp_record.specs.declared.ChannelRecord.{ChannelRecord}
 use Rattle.uslp_record.proofs.Count.{counts-le}
 use Rattle.uslp_form.specs.Entries.{Each, isOpened, isHeard}
 use Rattle.uslp_record.specs.Made.{Openable, Sound}
-use Rattle.uslp_form.specs.Form.{Form, columns, lacksFlag, totalsRow, row, EntryWhole, rows, section, form, GoodForm, restored}
-use Rattle.uslp_form.specs.Form.Form.{one}
+use Rattle.uslp_form.specs.declared.Form.{Form}
+use Rattle.uslp_form.specs.Form.{columns, lacksFlag, totalsRow, row, EntryWhole, rows, section, form, GoodForm, restored}
+use Rattle.uslp_form.specs.declared.Form.the-variants.{One, Two}
+use Rattle.uslp_form.specs.Said.{unheardLong, heardLong, channelIn, totalsIn, openedBy, heardBy}
 use Rattle.uslp_form.specs.Saved.{Restoring}
 use Rattle.uslp_form.specs.Saved.Restoring.{good, bad}
 use Rattle.uslp_record.proofs.Slots.{true-false}
 use Rattle.uslp_form.proofs.Each.{each-both, each-left, each-right}
-use Rattle.uslp_form.proofs.Flags.{not-expedited}
+use Rattle.uslp_form.proofs.Flags.{sequence-one}
 
 -- two rows of the same widths, whole octets, that pack to the same are the same, and so is what stands behind them
 module _ (fs gs : List Field) (n : ℕ) (a : bitsIn fs ≡ 8 * n) (b : bitsIn gs ≡ 8 * n) (same : (s : List ℕ) → unpack fs s ≡ unpack gs s) (s t : List ℕ)
@@ -41,43 +45,82 @@ module _ (fs gs : List Field) (n : ℕ) (a : bitsIn fs ≡ 8 * n) (b : bitsIn gs
 abbrev Rowed : Form → SlotState → Type 0
 Rowed f x = Fits (row f x) × EntryWhole f x
 
--- the flags of channels that form 1 does not lack
-flag-one : (k c : Channel) → lacksFlag one k ≡ false → lacksFlag one c ≡ false → k .«sequence_control_flag» ≡ c .«sequence_control_flag»
-flag-one k c h g = not-expedited (k .«sequence_control_flag») h ∙ sym (not-expedited (c .«sequence_control_flag») g)
-
-opened-one : (f : Form) (k c : Channel) (v w : ℕ) (s t : List ℕ) → Rowed f (Opened k v) → Rowed f (Opened c w)
-    → pack (row f (Opened k v)) ++ s ≡ pack (row f (Opened c w)) ++ t → (Opened k v ≡ Opened c w) × (s ≡ t)
-opened-one one k c v w s t h g e =
-    let q = row-one (row one (Opened k v)) (row one (Opened c w)) 4 refl refl (λ z. refl) s t e (h .0) (g .0) in
-    let x : k ≡ c =
+-- columns before others, none of which has the flag's name, say their channel
+pub channel-back : (f : Form) (k : Channel) (fs : List Field) → named "bypass" fs ≡ 0 → lacksFlag f k ≡ false → channelIn (columns f k ++ fs) ≡ k
+channel-back One k fs none e =
+    (λ i. record { «spacecraft_id» = k .«spacecraft_id»; «vc_id» = k .«vc_id»; «sequence_control_flag» = bypassOf (none i) }) ∙ sequence-one k e
+channel-back Two k fs none e =
     λ i. record {
-      «spacecraft_id» = ap (named "spacecraft") q i;
-      «vc_id» = ap (named "channel") q i;
-      «sequence_control_flag» = flag-one k c (h .1) (g .1) i;
-    } in
-    (ap₂ Opened x (ap (named "width") q), rest-one (row one (Opened k v)) (row one (Opened c w)) 4 refl refl (λ z. refl) s t e)
+      «spacecraft_id» = k .«spacecraft_id»;
+      «vc_id» = k .«vc_id»;
+      «sequence_control_flag» = bypass-back (k .«sequence_control_flag») i;
+    }
 
-heard-one : (f : Form) (k c : Channel) (v w : ℕ) (p q : Totals) (s t : List ℕ) → Rowed f (Heard k v p) → Rowed f (Heard c w q)
-    → pack (row f (Heard k v p)) ++ s ≡ pack (row f (Heard c w q)) ++ t → (Heard k v p ≡ Heard c w q) × (s ≡ t)
-heard-one one k c v w p q s t h g e =
-    let z = row-one (row one (Heard k v p)) (row one (Heard c w q)) 44 refl refl (λ z. refl) s t e (h .0) (g .0) in
-    let x : k ≡ c =
-    λ i. record {
-      «spacecraft_id» = ap (named "spacecraft") z i;
-      «vc_id» = ap (named "channel") z i;
-      «sequence_control_flag» = flag-one k c (h .1) (g .1) i;
-    } in (
-      (λ i. Heard (x i) (ap (named "width") z i)
-          (record {
-            last = ap (named "last") z i;
-            «handed_on» = ap (named "handed on") z i;
-            missing = ap (named "missing") z i;
-            repeats = ap
-                (named "repeats") z i;
-            late = ap (named "late") z i;
-          })),
-      rest-one (row one (Heard k v p)) (row one (Heard c w q)) 44 refl refl (λ z. refl) s t e,
-    )
+width-back : (f : Form) (k : Channel) (w : ℕ) (fs : List Field) → named "width" (columns f k ++ ("width", 8, w) ∷ fs) ≡ w
+width-back One k w fs = refl
+width-back Two k w fs = refl
+
+totals-back : (f : Form) (k : Channel) (w : ℕ) (t : Totals) → totalsIn (columns f k ++ ("width", 8, w) ∷ totalsRow t) ≡ t
+totals-back One k w t = refl
+totals-back Two k w t = refl
+
+module _ (f : Form) (k : Channel) (w : ℕ) (whole : lacksFlag f k ≡ false) where
+  pub opened-back : openedBy (row f (Opened k w)) ≡ Opened k w
+  opened-back = ap₂ Opened (channel-back f k (("width", 8, w) ∷ []) refl whole) (width-back f k w [])
+
+  pub heard-back : (t : Totals) → heardBy (row f (Heard k w t)) ≡ Heard k w t
+  heard-back t =
+      let c = channel-back f k (("width", 8, w) ∷ totalsRow t) refl whole in
+      λ i. Heard (c i) (width-back f k w (totalsRow t) i) (totals-back f k w t i)
+
+-- the rows of a kind have the same names and bits, whole octets
+pub opened-bits : (f : Form) (k : Channel) (w : ℕ) → bitsIn (row f (Opened k w)) ≡ 8 * unheardLong f
+opened-bits One k w = refl
+opened-bits Two k w = refl
+
+pub heard-bits : (f : Form) (k : Channel) (w : ℕ) (t : Totals) → bitsIn (row f (Heard k w t)) ≡ 8 * heardLong f
+heard-bits One k w t = refl
+heard-bits Two k w t = refl
+
+pub opened-size : (f : Form) (k : Channel) (w : ℕ) → length (pack (row f (Opened k w))) ≡ unheardLong f
+opened-size f k w = let z = opened-bits f k w in length-octets (bitsIn (row f (Opened k w)) / 8) (valueOf (row f (Opened k w))) ∙ omega arith
+
+pub heard-size : (f : Form) (k : Channel) (w : ℕ) (t : Totals) → length (pack (row f (Heard k w t))) ≡ heardLong f
+heard-size f k w t = let z = heard-bits f k w t in length-octets (bitsIn (row f (Heard k w t)) / 8) (valueOf (row f (Heard k w t))) ∙ omega arith
+
+pub opened-alike : (f : Form) (k c : Channel) (v w : ℕ) (s : List ℕ) → unpack (row f (Opened k v)) s ≡ unpack (row f (Opened c w)) s
+opened-alike One k c v w s = refl
+opened-alike Two k c v w s = refl
+
+pub heard-alike : (f : Form) (k c : Channel) (v w : ℕ) (p q : Totals) (s : List ℕ) → unpack (row f (Heard k v p)) s ≡ unpack (row f (Heard c w q)) s
+heard-alike One k c v w p q s = refl
+heard-alike Two k c v w p q s = refl
+
+-- so two that pack to the same octets are of the same entry
+module _ (f : Form) (k c : Channel) (v w : ℕ) (s t : List ℕ) where
+  opened-one : Rowed f (Opened k v) → Rowed f (Opened c w)
+      → pack (row f (Opened k v)) ++ s ≡ pack (row f (Opened c w)) ++ t → (Opened k v ≡ Opened c w) × (s ≡ t)
+  opened-one h g e =
+      let x = row f (Opened k v) in
+      let y = row f (Opened c w) in
+      let a = opened-bits f k v in
+      let b = opened-bits f c w in
+      let same = opened-alike f k c v w in (
+        sym (opened-back f k v (h .1)) ∙ ap openedBy (row-one x y (unheardLong f) a b same s t e (h .0) (g .0)) ∙ opened-back f c w (g .1),
+        rest-one x y (unheardLong f) a b same s t e,
+      )
+
+  heard-one : (p q : Totals) → Rowed f (Heard k v p) → Rowed f (Heard c w q)
+      → pack (row f (Heard k v p)) ++ s ≡ pack (row f (Heard c w q)) ++ t → (Heard k v p ≡ Heard c w q) × (s ≡ t)
+  heard-one p q h g e =
+      let x = row f (Heard k v p) in
+      let y = row f (Heard c w q) in
+      let a = heard-bits f k v p in
+      let b = heard-bits f c w q in
+      let same = heard-alike f k c v w p q in (
+        sym (heard-back f k v (h .1) p) ∙ ap heardBy (row-one x y (heardLong f) a b same s t e (h .0) (g .0)) ∙ heard-back f c w (g .1) q,
+        rest-one x y (heardLong f) a b same s t e,
+      )
 
 module _ (f : Form) where
   -- an entry of a kind, whose row gives it back
@@ -101,7 +144,7 @@ module _ (f : Form) where
   reads-heard (Opened k v) y a b s t e = absurd (true-false (a .0) refl)
   reads-heard (Heard k v p) Closed a b s t e = absurd (true-false (b .0) refl)
   reads-heard (Heard k v p) (Opened c w) a b s t e = absurd (true-false (b .0) refl)
-  reads-heard (Heard k v p) (Heard c w q) a b s t e = heard-one f k c v w p q s t (a .1) (b .1) e
+  reads-heard (Heard k v p) (Heard c w q) a b s t e = heard-one f k c v w s t p q (a .1) (b .1) e
 
   module _ (test : SlotState → Bool) (reads : Reads test) where
     rows-one : (l m : List SlotState) → Each (Entry test) l → Each (Entry test) m → length l ≡ length m → (s t : List ℕ)
@@ -135,19 +178,23 @@ module _ (f : Form) where
       let h = section-one isOpened reads-opened us vs a b (section f hs) (section f gs) e in
       (h .0, section-one isHeard reads-heard hs gs c d [] [] (append-nil (section f hs) ∙ h .1 ∙ sym (append-nil (section f gs))) .0)
 
-  pub columns-fit : (k : Channel) (w : ℕ) (x : List Field) → Openable k w → Fits x → Fits (columns f k ++ ("width", 8, w) ∷ x)
-  columns-fit k w x o h = go f
+  pub columns-fit : (k : Channel) {w : ℕ} (fs : List Field) → Openable k w → Fits fs → Fits (columns f k ++ fs)
+  columns-fit k fs o h = go f
     where
-      go : (g : Form) → Fits (columns g k ++ ("width", 8, w) ∷ x)
-      go one = (o .craft, (omega (arith, o .channel), (omega (arith, o .narrow), h)))
+      go : (g : Form) → Fits (columns g k ++ fs)
+      go One = (o .craft, (omega (arith, o .channel), h))
+      go Two = (o .craft, (omega (arith, o .channel), (omega (arith, bypass-lt (k .«sequence_control_flag»)), h)))
 
   pub sound-fits : (x : SlotState) → Sound x → Fits (row f x)
   sound-fits Closed s = tt
-  sound-fits (Opened k w) s = columns-fit k w [] s tt
+  sound-fits (Opened k w) s = columns-fit k (("width", 8, w) ∷ []) s (omega (arith, s .narrow), tt)
   sound-fits (Heard k w t) s =
-      columns-fit k w (totalsRow t) (s .0) (
-        omega (arith, s .1 .last, counts-le w (s .0 .narrow)),
-        (omega (arith, s .1 .«handed_on»), (omega (arith, s .1 .missing), (omega (arith, s .1 .repeats), (omega (arith, s .1 .late), tt)))),
+      columns-fit k (("width", 8, w) ∷ totalsRow t) (s .0) (
+        omega (arith, s .0 .narrow),
+        (
+          omega (arith, s .1 .last, counts-le w (s .0 .narrow)),
+          (omega (arith, s .1 .«handed_on»), (omega (arith, s .1 .missing), (omega (arith, s .1 .repeats), (omega (arith, s .1 .late), tt)))),
+        ),
       )
 
   -- a good form has one pair of lists

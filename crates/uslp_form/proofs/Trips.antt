@@ -13,7 +13,8 @@ use Rattle.uslp_record.specs.declared.Slot.{Slot}
 use Rattle.uslp_record.specs.declared.ChannelRecord.{ChannelRecord}
 use Rattle.uslp_record.specs.Made.{Sound, Made}
 use Rattle.uslp_form.specs.Entries.{Each, Once, isOpened, isHeard}
-use Rattle.uslp_form.specs.Form.{Form, EntryWhole, Whole, form, sorted, formOf, GoodForm, restored}
+use Rattle.uslp_form.specs.declared.Form.{Form}
+use Rattle.uslp_form.specs.Form.{EntryWhole, Whole, form, sorted, formOf, GoodForm, restored}
 use Rattle.uslp_record.proofs.Slots.{true-false}
 use Rattle.uslp_form.proofs.Each.{statesIn, each-append, each-from, each-map, each-both, Has, has-left, has-right, once-append, once-from}
 use Rattle.uslp_form.proofs.Flags.{none-lacks, lacks-none}

@@ -6,7 +6,8 @@ use Prim.Native.Nat.{ℕ, _^_, _<_, _≤_}
 use native.Mathlib.Omega.{arith}
 use lib.ListN.{length, replicate}
 use Rattle.uslp_kinds.specs.Outcome.{done, refused}
-use Rattle.uslp_kinds.specs.declared.BypassSequenceControlFlag.the-variants.{SequenceControlledQoS}
+use Rattle.uslp_kinds.specs.declared.BypassSequenceControlFlag.{BypassSequenceControlFlag}
+use Rattle.uslp_kinds.specs.declared.BypassSequenceControlFlag.the-variants.{SequenceControlledQoS, ExpeditedQoS}
 use Rattle.uslp_record.specs.Slots.{stateHolds, find, slotOf}
 use Rattle.uslp_record.specs.Record.{Kept, keeping, showing}
 use Rattle.uslp_record.specs.declared.Channel.{Channel}
@@ -16,8 +17,9 @@ use Rattle.uslp_record.specs.declared.SlotState.the-variants.{Closed, Opened, H
 use Rattle.uslp_record.specs.declared.ChannelRecord.{ChannelRecord}
 use Rattle.uslp_form.specs.Entries.{Each, Once, isOpened, isHeard}
 use Rattle.uslp_record.specs.Made.{Sound}
-use Rattle.uslp_form.specs.Form.{Form, anyLacks, rows, insert, sorted, form, formOf, GoodForm, restored}
-use Rattle.uslp_form.specs.Form.Form.{one}
+use Rattle.uslp_form.specs.declared.Form.{Form}
+use Rattle.uslp_form.specs.Form.{anyLacks, rows, insert, sorted, form, formOf, GoodForm, restored}
+use Rattle.uslp_form.specs.declared.Form.the-variants.{One, Two}
 use Rattle.uslp_form.specs.Saved.{Restoring}
 use Rattle.uslp_form.proofs.Each.{Has, each-has, once-apart}
 use Rattle.uslp_record.proofs.Slots.{true-false}
@@ -77,15 +79,18 @@ no-old f r q us hs s g h K none =
     ∙ sym (showing-none (restored l) K (find K (restored l .slots)) refl (omega (arith, n, eight-restored l (g .few))))
 
 -- restoring form 1 that gives an expedited channel: none that is done leaves one open
-pub none-expedited : (r q : ChannelRecord) (s : List ℕ) → Restoring one r s (keeping (done tt) q) → Expedited q → ⊥
+pub none-expedited : (r q : ChannelRecord) (s : List ℕ) → Restoring One r s (keeping (done tt) q) → Expedited q → ⊥
 none-expedited r q s h x =
-    let d = restores-done one h in
+    let d = restores-done One h in
     true-false (lacks-exactly q .1 x)
-    (ap (λ (y : ChannelRecord). anyLacks one (y .slots)) (sym (d .is)) ∙ whole-good one s (d .unheard) (d .heard) (d .is-good))
+    (ap (λ (y : ChannelRecord). anyLacks One (y .slots)) (sym (d .is)) ∙ whole-good One s (d .unheard) (d .heard) (d .is-good))
 
 -- saving in slot order: two channels opened in descending order are written ascending
+abbrev channel : ℕ → ℕ → BypassSequenceControlFlag → Channel
+channel s c b = record { «spacecraft_id» = s; «vc_id» = c; «sequence_control_flag» = b }
+
 abbrev craft : ℕ → ℕ → Channel
-craft s c = record { «spacecraft_id» = s; «vc_id» = c; «sequence_control_flag» = SequenceControlledQoS }
+craft s c = channel s c SequenceControlledQoS
 
 abbrev descending : ChannelRecord
 descending = record {
@@ -97,7 +102,7 @@ descending = record {
 abbrev pub two : ChannelRecord
 two = record { slots = slotOf (Opened (craft 0x1234 5) 1) ∷ slotOf (Opened (craft 0x1233 63) 7) ∷ replicate 6 (slotOf Closed) }
 
-pub written-ascending : formOf one descending
+pub written-ascending : formOf One descending
     ≡ 2 ∷ 0x12 ∷ 0x33 ∷ 63 ∷ 7 ∷ 0x12 ∷ 0x34 ∷ 5 ∷ 1
     ∷ 1 ∷ 0 ∷ 9 ∷ 0 ∷ 2
     ∷ 0 ∷ 0 ∷ 0 ∷ 0 ∷ 0 ∷ 0 ∷ 1 ∷ 2
@@ -107,3 +112,13 @@ pub written-ascending : formOf one descending
     ∷ 0 ∷ 0 ∷ 0 ∷ 0 ∷ 0 ∷ 0 ∷ 0 ∷ 0 ∷ []
 unfolding rows insert sorted
 written-ascending = refl
+
+-- saving form 2 in the order of form 1, which leaves two channels of one number in slot order: the sequence-controlled one is written first
+abbrev pub mixed : ChannelRecord
+mixed = record {
+  slots = slotOf (Opened (channel 0x1234 5 ExpeditedQoS) 1) ∷ slotOf (Opened (channel 0x1234 5 SequenceControlledQoS) 7) ∷ replicate 6 (slotOf Closed);
+}
+
+pub flag-ascending : formOf Two mixed ≡ 2 ∷ 0x12 ∷ 0x34 ∷ 5 ∷ 0 ∷ 7 ∷ 0x12 ∷ 0x34 ∷ 5 ∷ 1 ∷ 1 ∷ 0 ∷ []
+unfolding rows insert sorted
+flag-ascending = refl

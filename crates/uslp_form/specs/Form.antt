@@ -15,19 +15,23 @@ use Rattle.uslp_record.specs.declared.SlotState.{SlotState}
 use Rattle.uslp_record.specs.declared.SlotState.the-variants.{Closed, Opened, Heard}
 use Rattle.uslp_record.specs.declared.Slot.{Slot}
 use Rattle.uslp_record.specs.declared.ChannelRecord.{ChannelRecord}
+use Rattle.uslp_form.specs.declared.Form.{Form}
+use Rattle.uslp_form.specs.declared.Form.the-variants.{One, Two}
 use Rattle.uslp_form.specs.Entries.{isOpened, isHeard, Each, Once}
 
--- the forms that there are
-pub data Form : Type 0 where
-  one : Form
+-- the column of the bypass flag: form 1 is form 2 with this one left out
+abbrev pub flagColumn : Form → Channel → List Field
+flagColumn One k = []
+flagColumn Two k = ("bypass", 8, bypassNumber (k .«sequence_control_flag»)) ∷ []
 
 -- the columns that say which channel it is; both sections ascend by them, the first counting most
 abbrev pub columns : Form → Channel → List Field
-columns one k = ("spacecraft", 16, k .«spacecraft_id») ∷ ("channel", 8, k .«vc_id») ∷ []
+columns f k = ("spacecraft", 16, k .«spacecraft_id») ∷ ("channel", 8, k .«vc_id») ∷ flagColumn f k
 
--- form 1 has no column for the bypass flag: it is for sequence-controlled channels, and lacks the flag of an expedited one
+-- so form 1 is for sequence-controlled channels, and lacks the flag of an expedited one; form 2 lacks none
 abbrev pub lacksFlag : Form → Channel → Bool
-lacksFlag one k = eqb (bypassNumber (k .«sequence_control_flag»)) 1
+lacksFlag One k = eqb (bypassNumber (k .«sequence_control_flag»)) 1
+lacksFlag Two k = false
 
 abbrev pub totalsRow : Totals → List Field
 totalsRow t =

@@ -15,7 +15,8 @@ use Rattle.uslp_record.specs.declared.Slot.{Slot}
 use Rattle.uslp_record.specs.declared.ChannelRecord.{ChannelRecord}
 use Rattle.uslp_form.specs.Entries.{Each, Once}
 use Rattle.uslp_record.specs.Made.{Sound}
-use Rattle.uslp_form.specs.Form.{Form, rank, Ascending, restored}
+use Rattle.uslp_form.specs.declared.Form.{Form}
+use Rattle.uslp_form.specs.Form.{rank, Ascending, restored}
 use Rattle.uslp_saved.specs.Reading.{AllAdmitted}
 use Rattle.uslp_form.proofs.Each.{each-map, each-index, index-each, once-index}
 use Rattle.uslp_form.proofs.Restored.{each-closed, found-only}

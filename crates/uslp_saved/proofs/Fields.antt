@@ -1,20 +1,26 @@
--- The fields of the rows of form 1, from a place on.
-use mathlib.Core.Path.{_≡_, refl, ap, sym, _∙_}
-use Prim.Native.Nat.{ℕ, _+_, _*_}
+-- The fields of the rows of a form, from a place on.
+use mathlib.Core.Path.{_≡_, refl, ap, ap₂, sym, _∙_}
+use Prim.Native.Nat.{ℕ, _+_, _*_, _<_}
 use Prim.Native.String.{String}
-use mathlib.Core.List.{List, [], _∷_}
+use mathlib.Core.List.{List, [], _∷_, _++_}
 use native.Mathlib.Omega.{arith}
 use native.Mathlib.Nat.{add-zero}
 use lib.ListN.{getD, drop}
 use lib.Seq.{drop-drop}
 use Rattle.uslp_octets.specs.Octets.{AreOctets, Field, bitsIn, unpack, word}
 use Rattle.uslp_octets.proofs.Laws.{field-eq, unpack-cons, are-drop, word-drop}
-use Rattle.uslp_kinds.specs.declared.BypassSequenceControlFlag.the-variants.{SequenceControlledQoS}
+use Rattle.uslp_kinds.specs.Kinds.{bypassOf}
+use Rattle.uslp_kinds.specs.declared.BypassSequenceControlFlag.{BypassSequenceControlFlag}
+use Rattle.uslp_kinds.proofs.Cases.{bypass-number}
 use Rattle.uslp_record.specs.declared.Channel.{Channel}
 use Rattle.uslp_record.specs.declared.SlotState.the-variants.{Opened, Heard}
-use Rattle.uslp_form.specs.Form.{totalsRow}
-use Rattle.uslp_form.specs.Form.Form.{one}
-use Rattle.uslp_saved.specs.Reading.{noTotals, channelAt, openedBy, heardBy, unheardIn, heardIn}
+use Rattle.uslp_record.specs.declared.Totals.{Totals}
+use Rattle.uslp_form.specs.declared.Form.{Form}
+use Rattle.uslp_form.specs.declared.Form.the-variants.{One, Two}
+use Rattle.uslp_form.specs.Form.{flagColumn, columns, totalsRow}
+use Rattle.uslp_form.specs.Said.{flagLong, openedBy, heardBy}
+use Rattle.uslp_saved.specs.Reading.{noChannel, noTotals, channelAt, totalsAt, unheardIn, heardIn}
+use Rattle.uslp_saved.proofs.Puts.{flag-bits}
 
 module _ (s : List ℕ) (oct : AreOctets s) (at : ℕ) where
   abbrev from : ℕ → List ℕ
@@ -35,45 +41,88 @@ module _ (s : List ℕ) (oct : AreOctets s) (at : ℕ) where
   octet : (j : ℕ) → word (at + j) 1 s ≡ getD s (at + j) 0
   octet j = omega (arith, ap (λ (n : ℕ). getD s n 0) (add-zero (at + j)))
 
-  pub channel-at : (x : ℕ) → x ≡ getD s at 0 * 256 + getD s (at + 1) 0
-      → record { «spacecraft_id» = x; «vc_id» = getD s (at + 2) 0; «sequence_control_flag» = SequenceControlledQoS } ≡ channelAt one at s
-  channel-at x e =
+  pub channel-at : (f : Form) (x y : ℕ) (b : BypassSequenceControlFlag) → x ≡ getD s at 0 * 256 + getD s (at + 1) 0 → y ≡ word (at + 3) (flagLong f) s
+      → b ≡ bypassOf y → record { «spacecraft_id» = x; «vc_id» = getD s (at + 2) 0; «sequence_control_flag» = b } ≡ channelAt f at s
+  channel-at f x y b e d is =
       let craft : x ≡ word at 2 s = omega (arith, e, ap (λ (n : ℕ). getD s n 0) (add-zero at)) in
-      λ i. record { «spacecraft_id» = craft i; «vc_id» = sym (octet 2) i; «sequence_control_flag» = SequenceControlledQoS }
+      let flag : b ≡ bypassOf (word (at + 3) (flagLong f) s) = is ∙ ap bypassOf d in
+      λ i. record { «spacecraft_id» = craft i; «vc_id» = sym (octet 2) i; «sequence_control_flag» = flag i }
 
-  totals-fields : unpack (totalsRow noTotals) (from 4) ≡ totalsRow (record {
-    last = word (at + 4) 8 s;
-    «handed_on» = word (at + 12) 8 s;
-    missing = word (at + 20) 8 s;
-    repeats = word (at + 28) 8 s;
-    late = word (at + 36) 8 s;
-  })
+  totals-fields : unpack (totalsRow noTotals) (from 0) ≡ totalsRow (totalsAt at s)
   totals-fields =
-      field-at "last" 4 8 32 (("handed on", 64, 0) ∷ ("missing", 64, 0) ∷ ("repeats", 64, 0) ∷ ("late", 64, 0) ∷ []) refl
-      ∙ field-eq refl (field-at "handed on" 12 8 24 (("missing", 64, 0) ∷ ("repeats", 64, 0) ∷ ("late", 64, 0) ∷ []) refl
-      ∙ field-eq refl (field-at "missing" 20 8 16 (("repeats", 64, 0) ∷ ("late", 64, 0) ∷ []) refl
-      ∙ field-eq refl (field-at "repeats" 28 8 8 (("late", 64, 0) ∷ []) refl
-      ∙ field-eq refl (field-at "late" 36 8 0 [] refl))))
+      field-at "last" 0 8 32 (("handed on", 64, 0) ∷ ("missing", 64, 0) ∷ ("repeats", 64, 0) ∷ ("late", 64, 0) ∷ []) refl
+      ∙ field-eq (ap (λ (n : ℕ). word n 8 s) (add-zero at))
+      (field-at "handed on" 8 8 24 (("missing", 64, 0) ∷ ("repeats", 64, 0) ∷ ("late", 64, 0) ∷ []) refl
+      ∙ field-eq refl (field-at "missing" 16 8 16 (("repeats", 64, 0) ∷ ("late", 64, 0) ∷ []) refl
+      ∙ field-eq refl (field-at "repeats" 24 8 8 (("late", 64, 0) ∷ []) refl
+      ∙ field-eq refl (field-at "late" 32 8 0 [] refl))))
 
-  -- the four octets that say the channel and its width, before a row of m
-  channel-fields : (m : ℕ) (fs : List Field) → bitsIn fs ≡ 8 * m
-      → unpack (("spacecraft", 16, 0) ∷ ("channel", 8, 0) ∷ ("width", 8, 0) ∷ fs) (from 0)
-      ≡ ("spacecraft", 16, word at 2 s) ∷ ("channel", 8, word (at + 2) 1 s) ∷ ("width", 8, word (at + 3) 1 s) ∷ unpack fs (from 4)
-  channel-fields m fs whole =
-      field-at "spacecraft" 0 2 (1 + (1 + m)) (("channel", 8, 0) ∷ ("width", 8, 0) ∷ fs) (omega arith)
-      ∙ field-eq (ap (λ (n : ℕ). word n 2 s) (add-zero at)) (field-at "channel" 2 1 (1 + m) (("width", 8, 0) ∷ fs) (omega arith)
-      ∙ field-eq refl (field-at "width" 3 1 m fs whole))
+  -- the octets that say the channel and its width, before a row
+  abbrev flagField : Form → List Field
+  flagField One = []
+  flagField Two = ("bypass", 8, word (at + 3) 1 s) ∷ []
 
-  module _ (k : Channel) (found : k ≡ channelAt one at s) where
-    pub unheard-at : Opened k (getD s (at + 3) 0) ≡ unheardIn one (drop at s)
-    unheard-at =
-        (λ i. Opened (found i) (sym (octet 3) i))
-        ∙ ap (openedBy one) (sym (channel-fields 0 [] refl))
+  abbrev before : Form → List Field → List Field
+  before f fs =
+      ("spacecraft", 16, word at 2 s) ∷ ("channel", 8, word (at + 2) 1 s)
+      ∷ (flagField f ++ ("width", 8, word (at + (3 + flagLong f)) 1 s) ∷ fs)
 
-    pub heard-at : (l h m p t : ℕ)
-        → l ≡ word (at + 4) 8 s → h ≡ word (at + 12) 8 s → m ≡ word (at + 20) 8 s → p ≡ word (at + 28) 8 s → t ≡ word (at + 36) 8 s
-        → Heard k (getD s (at + 3) 0) (record { last = l; «handed_on» = h; missing = m; repeats = p; late = t }) ≡ heardIn one (drop at s)
-    heard-at l h m p t el eh em ep et =
-        (λ i. Heard (found i) (sym (octet 3) i)
-        (record { last = el i; «handed_on» = eh i; missing = em i; repeats = ep i; late = et i }))
-        ∙ ap (heardBy one) (sym (channel-fields 40 (totalsRow noTotals) refl ∙ field-eq refl (field-eq refl (field-eq refl totals-fields))))
+  pub channel-fields : (f : Form) (m : ℕ) (fs : List Field) → bitsIn fs ≡ 8 * m
+      → unpack (columns f noChannel ++ ("width", 8, 0) ∷ fs) (from 0) ≡ before f (unpack fs (from (4 + flagLong f)))
+  channel-fields f m fs whole =
+      let rest : List Field = ("width", 8, 0) ∷ fs in
+      let bits : bitsIn rest ≡ 8 * (1 + m) = omega arith in
+      let long = flag-bits noChannel (1 + m) rest bits f in
+      field-at "spacecraft" 0 2 (1 + (flagLong f + (1 + m))) (("channel", 8, 0) ∷ (flagColumn f noChannel ++ rest)) (omega (arith, long))
+      ∙ field-eq (ap (λ (n : ℕ). word n 2 s) (add-zero at))
+      (field-at "channel" 2 1 (flagLong f + (1 + m)) (flagColumn f noChannel ++ rest) long
+      ∙ field-eq refl (tail f))
+    where
+      tail : (g : Form) → unpack (flagColumn g noChannel ++ ("width", 8, 0) ∷ fs) (from 3)
+          ≡ flagField g ++ ("width", 8, word (at + (3 + flagLong g)) 1 s) ∷ unpack fs (from (4 + flagLong g))
+      tail One = field-at "width" 3 1 m fs whole
+      tail Two =
+          field-at "bypass" 3 1 (1 + m) (("width", 8, 0) ∷ fs) (omega arith) ∙ field-eq refl (field-at "width" 4 1 m fs whole)
+
+  -- what they say
+  said-opened : (f : Form) → openedBy (before f []) ≡ Opened (channelAt f at s) (word (at + (3 + flagLong f)) 1 s)
+  said-opened One = refl
+  said-opened Two = refl
+
+  said-heard : (f : Form) (t : Totals) → heardBy (before f (totalsRow t)) ≡ Heard (channelAt f at s) (word (at + (3 + flagLong f)) 1 s) t
+  said-heard One t = refl
+  said-heard Two t = refl
+
+  -- and the columns of what they say are those that were read, where the flag is 0 or 1
+  pub columns-again : (f : Form) (fs : List Field) → word (at + 3) (flagLong f) s < 2
+      → columns f (channelAt f at s) ++ ("width", 8, word (at + (3 + flagLong f)) 1 s) ∷ fs ≡ before f fs
+  columns-again One fs h = refl
+  columns-again Two fs h = field-eq refl (field-eq refl (field-eq (bypass-number (word (at + 3) 1 s) h) refl))
+
+module _ (s : List ℕ) (oct : AreOctets s) (at : ℕ) (f : Form) where
+  totals-behind : unpack (totalsRow noTotals) (from s oct at (4 + flagLong f)) ≡ totalsRow (totalsAt (at + (4 + flagLong f)) s)
+  totals-behind =
+      ap (unpack (totalsRow noTotals)) (drop-drop (4 + flagLong f) at s) ∙ totals-fields s oct (at + (4 + flagLong f))
+
+  said-at : (w : ℕ) → w ≡ at + 3 + flagLong f → getD s w 0 ≡ word (at + (3 + flagLong f)) 1 s
+  said-at w e = let z : w ≡ at + (3 + flagLong f) = omega arith in ap (λ (n : ℕ). getD s n 0) z ∙ sym (octet s oct at (3 + flagLong f))
+
+  -- the entry that stands there
+  pub opened-in : unheardIn f (drop at s) ≡ Opened (channelAt f at s) (word (at + (3 + flagLong f)) 1 s)
+  opened-in = ap openedBy (channel-fields s oct at f 0 [] refl) ∙ said-opened s oct at f
+
+  pub heard-fields : unpack (columns f noChannel ++ ("width", 8, 0) ∷ totalsRow noTotals) (from s oct at 0)
+      ≡ before s oct at f (totalsRow (totalsAt (at + (4 + flagLong f)) s))
+  heard-fields = channel-fields s oct at f 40 (totalsRow noTotals) refl ∙ ap (before s oct at f) totals-behind
+
+  pub heard-in : heardIn f (drop at s) ≡ Heard (channelAt f at s) (word (at + (3 + flagLong f)) 1 s) (totalsAt (at + (4 + flagLong f)) s)
+  heard-in = ap heardBy heard-fields ∙ said-heard s oct at f (totalsAt (at + (4 + flagLong f)) s)
+
+  module _ (k : Channel) (found : k ≡ channelAt f at s) (w : ℕ) (spot : w ≡ at + 3 + flagLong f) where
+    pub unheard-at : Opened k (getD s w 0) ≡ unheardIn f (drop at s)
+    unheard-at = ap₂ Opened found (said-at w spot) ∙ sym opened-in
+
+    pub heard-at : (t : Totals) (p : ℕ) → p ≡ at + 4 + flagLong f → t ≡ totalsAt p s → Heard k (getD s w 0) t ≡ heardIn f (drop at s)
+    heard-at t p e d =
+        let z : p ≡ at + (4 + flagLong f) = omega arith in
+        (λ i. Heard (found i) (said-at w spot i) (d i)) ∙ ap (λ (n : ℕ). Heard (channelAt f at s) (word (at + (3 + flagLong f)) 1 s) (totalsAt n s)) z ∙ sym heard-in

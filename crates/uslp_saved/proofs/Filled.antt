@@ -1,8 +1,12 @@
 -- Entries that are read, one by one, into slots from the first on.
-use mathlib.Core.Path.{_≡_, refl, sym, _∙_, ap, ap₂}
+use mathlib.Core.Path.{_≡_, refl, sym, _∙_, ap, ap₂, subst}
 use mathlib.Core.List.{List, [], _∷_, _++_, map}
 use Prim.Native.Nat.{ℕ, zero, suc, _+_, _-_, _*_, _<_, _≤_}
 use native.Mathlib.Omega.{arith}
+use native.Mathlib.Decide.{decLt, ℕ-discrete}
+use native.Mathlib.Nat.{mul-le-mul-right}
+use Rattle.uslp_octets.specs.Octets.{word}
+use Rattle.uslp_octets.proofs.Laws.{word-drop}
 use lib.ListN.{length, take, drop, getD, set, replicate, List·getD-append}
 use lib.Seq.{getD-append-add, drop-drop, take-all, length-take-le}
 use Rattle.uslp_record.specs.Slots.{slotOf, put, emptyRecord}
@@ -10,10 +14,11 @@ use Rattle.uslp_record.specs.declared.SlotState.{SlotState}
 use Rattle.uslp_record.specs.declared.SlotState.the-variants.{Closed}
 use Rattle.uslp_record.specs.declared.Slot.{Slot}
 use Rattle.uslp_record.specs.declared.ChannelRecord.{ChannelRecord}
+use Rattle.uslp_form.specs.declared.Form.{Form}
 use Rattle.uslp_form.specs.Form.{restored}
-use Rattle.uslp_form.specs.Form.Form.{one}
-use Rattle.uslp_saved.specs.Reading.{unheardIn, heardIn, entriesIn, firstCount, second, secondCount, unheardOfOctets, heardOfOctets, entriesOfOctets}
-use Rattle.uslp_saved.proofs.Entries.{unheard-long}
+use Rattle.uslp_form.specs.Said.{flagLong, unheardLong, heardLong}
+use Rattle.uslp_saved.specs.Reading.{unheardIn, heardIn, entriesIn, firstCount, second, secondCount, placeOf, unheardOfOctets, heardOfOctets, entriesOfOctets, Shaped, FlagFits}
+use Rattle.uslp_saved.proofs.Entries.{place-low, place-high, place-first, place-second, unheard-long}
 
 entry-in : (read : List ℕ → SlotState) (long n : ℕ) (s : List ℕ) (i : ℕ) → i < n → getD (entriesIn read long n s) i Closed ≡ read (drop (i * long) s)
 entry-in read long zero s i h = absurd (omega arith)
@@ -22,22 +27,60 @@ entry-in read long (suc n) s (suc i) h =
     let z : long + i * long ≡ suc i * long = omega arith in
     entry-in read long n (drop long s) i (omega arith) ∙ ap read (drop-drop (i * long) long s ∙ ap (λ (k : ℕ). drop k s) z)
 
-module _ (s : List ℕ) where
-  pub entry-unheard : (i p : ℕ) → i < firstCount one s → p ≡ 1 + i * 4 → unheardIn one (drop p s) ≡ getD (entriesOfOctets one s) i Closed
-  entry-unheard i p h e =
-      let z : 1 + i * 4 ≡ p = omega arith in
-      sym (List·getD-append (unheardOfOctets one s) (heardOfOctets one s) Closed i (omega (arith, unheard-long one s))
-      ∙ entry-in (unheardIn one) 4 (firstCount one s) (drop 1 s) i h ∙ ap (unheardIn one) (drop-drop (i * 4) 1 s ∙ ap (λ (k : ℕ). drop k s) z))
+module _ (f : Form) (s : List ℕ) (i p : ℕ) (spot : p ≡ placeOf f (firstCount f s) i) where
+  pub entry-unheard : i < firstCount f s → unheardIn f (drop p s) ≡ getD (entriesOfOctets f s) i Closed
+  entry-unheard h =
+      sym (List·getD-append (unheardOfOctets f s) (heardOfOctets f s) Closed i (omega (arith, unheard-long f s))
+      ∙ entry-in (unheardIn f) (unheardLong f) (firstCount f s) (drop 1 s) i h ∙ ap (unheardIn f) (place-first f s i h ∙ ap (λ (k : ℕ). drop k s) (sym spot)))
 
-  pub entry-heard : (n i p : ℕ) → n ≡ firstCount one s → n ≤ i → i < firstCount one s + secondCount one s → p ≡ 2 + n * 4 + (i - n) * 44
-      → heardIn one (drop p s) ≡ getD (entriesOfOctets one s) i Closed
-  entry-heard n i p is far h e =
-      let j = i - n in
-      let z : second one s + 1 + j * 44 ≡ p = omega arith in
-      let y : length (unheardOfOctets one s) + j ≡ i = omega (arith, unheard-long one s) in
-      sym (ap (λ (k : ℕ). getD (entriesOfOctets one s) k Closed) (sym y) ∙ getD-append-add (unheardOfOctets one s) (heardOfOctets one s) j Closed
-      ∙ entry-in (heardIn one) 44 (secondCount one s) (drop (second one s + 1) s) j (omega arith)
-      ∙ ap (heardIn one) (drop-drop (j * 44) (second one s + 1) s ∙ ap (λ (k : ℕ). drop k s) z))
+  pub entry-heard : firstCount f s ≤ i → i < firstCount f s + secondCount f s → heardIn f (drop p s) ≡ getD (entriesOfOctets f s) i Closed
+  entry-heard far h =
+      let j = i - firstCount f s in
+      let y : length (unheardOfOctets f s) + j ≡ i = omega (arith, unheard-long f s) in
+      sym (ap (λ (k : ℕ). getD (entriesOfOctets f s) k Closed) (sym y) ∙ getD-append-add (unheardOfOctets f s) (heardOfOctets f s) j Closed
+      ∙ entry-in (heardIn f) (heardLong f) (secondCount f s) (drop (second f s + 1) s) j (omega arith)
+      ∙ ap (heardIn f) (place-second f s i far ∙ ap (λ (k : ℕ). drop k s) (sym spot)))
+
+-- an entry stands within octets that have the shape, and so does its flag
+module _ (f : Form) (s : List ℕ) (shape : Shaped f s) (i p : ℕ) (spot : p ≡ placeOf f (firstCount f s) i) where
+  pub unheard-within : i < firstCount f s → p + unheardLong f ≤ length s
+  unheard-within low =
+      let z : suc i * unheardLong f ≤ firstCount f s * unheardLong f = mul-le-mul-right (unheardLong f) low in
+      omega (arith, shape .long, place-low f (firstCount f s) i _ low refl, z)
+
+  pub heard-within : firstCount f s ≤ i → i < firstCount f s + secondCount f s → p + heardLong f ≤ length s
+  heard-within far low =
+      let n = firstCount f s in
+      let y : suc (i - n) ≤ secondCount f s = omega arith in
+      let z : suc (i - n) * heardLong f ≤ secondCount f s * heardLong f = mul-le-mul-right (heardLong f) y in
+      omega (arith, shape .long, place-high f n i _ _ far refl refl, z)
+
+  pub flag-within : i < firstCount f s + secondCount f s → p + 3 + flagLong f ≤ length s
+  flag-within low =
+      elim (decLt i (firstCount f s)) [ yes h ↦ omega (arith, unheard-within h) | no h ↦ omega (arith, heard-within (omega arith) low) ]
+
+-- what is asked of a flag at its place
+module _ (f : Form) (s : List ℕ) (i p x : ℕ) (spot : p ≡ placeOf f (firstCount f s) i) (is : x ≡ word (p + 3) (flagLong f) s) where
+  flag-is : x ≡ word 3 (flagLong f) (drop (placeOf f (firstCount f s) i) s)
+  flag-is = is ∙ sym (word-drop p 3 (flagLong f) s) ∙ ap (λ (n : ℕ). word 3 (flagLong f) (drop n s)) spot
+
+  pub flag-so : x ≤ 1 → FlagFits f (drop (placeOf f (firstCount f s) i) s)
+  flag-so h = omega (arith, flag-is)
+
+  pub flag-not : 1 < x → FlagFits f (drop (placeOf f (firstCount f s) i) s) → ⊥
+  flag-not h e = omega (arith, flag-is, e)
+
+-- one flag more
+module _ (f : Form) (s : List ℕ) (i : ℕ) where
+  abbrev pub FlagsTo : Type 0
+  FlagsTo = (j : ℕ) → j < i → FlagFits f (drop (placeOf f (firstCount f s) j) s)
+
+pub flags-more : (f : Form) (s : List ℕ) (i : ℕ) → FlagsTo f s i → FlagFits f (drop (placeOf f (firstCount f s) i) s) → FlagsTo f s (i + 1)
+flags-more f s i all one j h = go (ℕ-discrete j i)
+  where
+    go : Dec (j ≡ i) → FlagFits f (drop (placeOf f (firstCount f s) j) s)
+    go (yes e) = subst (λ (n : ℕ). FlagFits f (drop (placeOf f (firstCount f s) n) s)) (sym e) one
+    go (no e) = all j (omega arith)
 
 -- one more entry
 slots-more : (l : List SlotState) (m i : ℕ) → i < length l

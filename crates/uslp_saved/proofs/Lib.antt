@@ -1,3 +1,4 @@
+pub mod ByForm
 pub mod Fields
 pub mod Flags
 pub mod Entries

@@ -15,7 +15,7 @@ use Rattle.uslp_record.specs.declared.SlotState.the-variants.{Closed, Opened, H
 use Rattle.uslp_record.specs.declared.ChannelRecord.{ChannelRecord}
 use Rattle.uslp_record.proofs.Slots.{true-false, same-self, same-one}
 use Rattle.uslp_form.specs.Form.{rank}
-use Rattle.uslp_form.specs.Form.Form.{one}
+use Rattle.uslp_form.specs.declared.Form.{Form}
 use Rattle.uslp_saved.specs.Reading.{Tells, FirstAt, Above, Admitted, AllAdmitted}
 
 module _ {P : Type 0} where
@@ -64,36 +64,36 @@ module _ (q : ChannelRecord) (i : ℕ) where
     first-heard s e = subst (λ (z : SlotState). Tells (eqb n i) (FirstAt q i z)) (sym e) at-own
 
 -- the slot above the one before it
-module _ (q : ChannelRecord) (n i : ℕ) where
-  pub above-first : i ≡ 0 → Tells true (Above one q n i)
+module _ (f : Form) (q : ChannelRecord) (n i : ℕ) where
+  pub above-first : i ≡ 0 → Tells true (Above f q n i)
   above-first e = tells-so (λ p o. absurd (omega arith))
 
-  pub above-second : i ≡ n → Tells true (Above one q n i)
+  pub above-second : i ≡ n → Tells true (Above f q n i)
   above-second e = tells-so (λ p o. absurd (o e))
 
-  pub above-other : (i ≡ 0 → ⊥) → (i ≡ n → ⊥) → (a b : ℕ) → a ≡ rank one (stateAt q (i - 1)) → b ≡ rank one (stateAt q i)
-      → Tells (ltb a b) (Above one q n i)
-  above-other z o a b f g = tells-lt a b (λ h p u. omega (arith, f, g, h)) (λ h. omega (arith, f, g, h (omega arith) o))
+  pub above-other : (i ≡ 0 → ⊥) → (i ≡ n → ⊥) → (a b : ℕ) → a ≡ rank f (stateAt q (i - 1)) → b ≡ rank f (stateAt q i)
+      → Tells (ltb a b) (Above f q n i)
+  above-other z o a b d e = tells-lt a b (λ h p u. omega (arith, d, e, h)) (λ h. omega (arith, d, e, h (omega arith) o))
 
   -- all that is asked of a slot
   module _ {x : Bool} (s : Tells x (Sound (stateAt q i))) where
-    pub admitted-unsound : x ≡ false → Tells false (Admitted one q n i)
+    pub admitted-unsound : x ≡ false → Tells false (Admitted f q n i)
     admitted-unsound e = tells-not (λ a. s .1 e (a .sound))
 
-    module _ (so : x ≡ true) {y : Bool} (u : Tells y (Above one q n i)) where
-      pub admitted-below : y ≡ false → Tells false (Admitted one q n i)
+    module _ (so : x ≡ true) {y : Bool} (u : Tells y (Above f q n i)) where
+      pub admitted-below : y ≡ false → Tells false (Admitted f q n i)
       admitted-below e = tells-not (λ a. u .1 e (a .above))
 
-      pub admitted-last : y ≡ true → {z : Bool} → Tells z (FirstAt q i (stateAt q i)) → Tells z (Admitted one q n i)
-      admitted-last e f = (λ g. record { sound = s .0 so; above = u .0 e; first = f .0 g }, λ g a. f .1 g (a .first))
+      pub admitted-last : y ≡ true → {z : Bool} → Tells z (FirstAt q i (stateAt q i)) → Tells z (Admitted f q n i)
+      admitted-last e d = (λ g. record { sound = s .0 so; above = u .0 e; first = d .0 g }, λ g a. d .1 g (a .first))
 
   -- one slot more
-  pub admitted-more : AllAdmitted one q n i → Admitted one q n i → AllAdmitted one q n (i + 1)
+  pub admitted-more : AllAdmitted f q n i → Admitted f q n i → AllAdmitted f q n (i + 1)
   admitted-more all a j h = go (ℕ-discrete j i)
     where
-      go : Dec (j ≡ i) → Admitted one q n j
-      go (yes e) = subst (Admitted one q n) (sym e) a
+      go : Dec (j ≡ i) → Admitted f q n j
+      go (yes e) = subst (Admitted f q n) (sym e) a
       go (no e) = all j (omega arith)
 
-pub admitted-all : (q : ChannelRecord) (n i total : ℕ) → total ≤ i → AllAdmitted one q n i → AllAdmitted one q n total
-admitted-all q n i total h all j low = all j (omega arith)
+pub admitted-all : (f : Form) (q : ChannelRecord) (n i total : ℕ) → total ≤ i → AllAdmitted f q n i → AllAdmitted f q n total
+admitted-all f q n i total h all j low = all j (omega arith)

@@ -11,13 +11,15 @@ use Rattle.uslp_record.specs.Record.{keeping}
 use Rattle.uslp_record.specs.declared.SlotState.{SlotState}
 use Rattle.uslp_record.specs.declared.ChannelRecord.{ChannelRecord}
 use Rattle.uslp_form.specs.Entries.{isOpened, isHeard}
-use Rattle.uslp_form.specs.Form.{Form, EntryWhole, GoodForm, restored}
+use Rattle.uslp_form.specs.declared.Form.{Form}
+use Rattle.uslp_form.specs.Form.{EntryWhole, GoodForm, restored}
 use Rattle.uslp_form.specs.Saved.{Restoring}
 use Rattle.uslp_form.specs.Saved.Restoring.{good, bad}
 use Rattle.uslp_form.proofs.Each.{each-append, each-map}
 use Rattle.uslp_form.proofs.Rows.{Entry}
-use Rattle.uslp_saved.specs.Reading.{unheardLong, heardLong, unheardIn, heardIn, firstCount, second, secondCount, unheardOfOctets, heardOfOctets, entriesOfOctets, Shaped, AllAdmitted}
-use Rattle.uslp_saved.proofs.Entries.{unheard-reader, heard-reader, entries-each, unheard-long, entries-count, unheard-read, heard-read, long-read, form-read}
+use Rattle.uslp_form.specs.Said.{unheardLong, heardLong}
+use Rattle.uslp_saved.specs.Reading.{unheardIn, heardIn, firstCount, second, secondCount, unheardOfOctets, heardOfOctets, entriesOfOctets, Shaped, Flagged, AllAdmitted}
+use Rattle.uslp_saved.proofs.Entries.{unheard-reader, heard-reader, entries-each, unheard-long, entries-count, unheard-read, heard-read, long-read, flags-read, form-read}
 use Rattle.uslp_saved.proofs.Admits.{admits-all, all-admits}
 
 module _ (f : Form) (s : List ℕ) where
@@ -37,13 +39,13 @@ module _ (f : Form) (s : List ℕ) where
   uncounted : (P : ℕ → ℕ → Type 0) → P (firstCount f s) (firstCount f s + secondCount f s) → P (length us) (length (us ++ hs))
   uncounted P h = subst (P (length us)) (sym (entries-count f s)) (subst (λ (n : ℕ). P n (firstCount f s + secondCount f s)) (sym (unheard-long f s)) h)
 
-  told-good : AreOctets s → Shaped f s → Admits → GoodForm f s us hs
-  told-good oct shape all =
+  told-good : AreOctets s → Shaped f s → Flagged f s → Admits → GoodForm f s us hs
+  told-good oct shape flags all =
       let a = admits-all f us hs (uncounted (AllAdmitted f (restored (us ++ hs))) all) in
       let u = entries-each f isOpened (unheardIn f) (unheardLong f) (unheard-reader f) (firstCount f s) (drop 1 s) in
       let h = entries-each f isHeard (heardIn f) (heardLong f) (heard-reader f) (secondCount f s) (drop (second f s + 1) s) in
       record {
-        octets = form-read f s oct (shape .long);
+        octets = form-read f s oct (shape .long) flags;
         unheard = each-map (Entry f isOpened) (λ (x : SlotState). isOpened x ≡ true) (λ x e. e .0) us u;
         heard = each-map (Entry f isHeard) (λ (x : SlotState). isHeard x ≡ true) (λ x e. e .0) hs h;
         flags = each-append (EntryWhole f) us hs
@@ -70,11 +72,14 @@ module _ (f : Form) (s : List ℕ) where
 
   -- what restoring leaves
   module _ (r : ChannelRecord) where
-    pub restores-good : AreOctets s → Shaped f s → Admits → Restoring f r s (keeping (done tt) (restored (entriesOfOctets f s)))
-    restores-good oct shape all = good us hs (told-good oct shape all)
+    pub restores-good : AreOctets s → Shaped f s → Flagged f s → Admits → Restoring f r s (keeping (done tt) (restored (entriesOfOctets f s)))
+    restores-good oct shape flags all = good us hs (told-good oct shape flags all)
 
     pub restores-shapeless : (Shaped f s → ⊥) → Restoring f r s (keeping (refused 18 []) r)
     restores-shapeless n = bad (λ vs gs g. n (told-shaped vs gs g))
+
+    pub restores-flagless : (Flagged f s → ⊥) → Restoring f r s (keeping (refused 18 []) r)
+    restores-flagless n = bad (λ vs gs g. n (flags-read f s vs gs g))
 
     pub restores-bad : (Admits → ⊥) → Restoring f r s (keeping (refused 18 []) r)
     restores-bad n = bad (λ vs gs g. n (told-admits vs gs g))

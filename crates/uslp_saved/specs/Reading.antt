@@ -1,11 +1,13 @@
 -- The entries that octets have, if they have the form, and what is asked of each: what the code reads on its way. `save` and `restore`
 -- promise nothing of these.
 use mathlib.Core.Path.{_≡_}
-use mathlib.Core.Bool.{Bool, true, false}
+use mathlib.Core.Bool.{Bool, true, false, cond}
 use mathlib.Core.List.{List, [], _∷_, _++_}
 use Prim.Native.Nat.{ℕ, zero, suc, _+_, _*_, _-_, _<_, _≤_}
+use lib.Dec.{ltb}
 use lib.ListN.{length, drop, getD}
-use Rattle.uslp_octets.specs.Octets.{Field, word, unpack, named}
+use Rattle.uslp_octets.specs.Octets.{word, unpack}
+use Rattle.uslp_kinds.specs.Kinds.{bypassOf}
 use Rattle.uslp_kinds.specs.declared.BypassSequenceControlFlag.the-variants.{SequenceControlledQoS}
 use Rattle.uslp_record.specs.Slots.{stateHolds, find, stateAt}
 use Rattle.uslp_record.specs.Made.{Sound}
@@ -14,8 +16,9 @@ use Rattle.uslp_record.specs.declared.Totals.{Totals}
 use Rattle.uslp_record.specs.declared.SlotState.{SlotState}
 use Rattle.uslp_record.specs.declared.SlotState.the-variants.{Opened, Heard}
 use Rattle.uslp_record.specs.declared.ChannelRecord.{ChannelRecord}
-use Rattle.uslp_form.specs.Form.{Form, row, rank}
-use Rattle.uslp_form.specs.Form.Form.{one}
+use Rattle.uslp_form.specs.declared.Form.{Form}
+use Rattle.uslp_form.specs.Form.{row, rank}
+use Rattle.uslp_form.specs.Said.{flagLong, unheardLong, heardLong, openedBy, heardBy}
 
 -- a channel and totals of zeros: their rows have the columns' names and widths
 abbrev pub noChannel : Channel
@@ -24,37 +27,24 @@ noChannel = record { «spacecraft_id» = 0; «vc_id» = 0; «sequence_control_fl
 abbrev pub noTotals : Totals
 noTotals = record { last = 0; «handed_on» = 0; missing = 0; repeats = 0; late = 0 }
 
--- how many octets an entry has
-abbrev pub unheardLong : Form → ℕ
-unheardLong one = 4
-
-abbrev pub heardLong : Form → ℕ
-heardLong one = 44
-
--- what a row says
-abbrev pub channelIn : Form → List Field → Channel
-channelIn one fs =
-    record { «spacecraft_id» = named "spacecraft" fs; «vc_id» = named "channel" fs; «sequence_control_flag» = SequenceControlledQoS }
-
--- the same where it stands, from a place on
+-- what stands from a place on: a channel, and totals
 abbrev pub channelAt : Form → ℕ → List ℕ → Channel
-channelAt one at s = record { «spacecraft_id» = word at 2 s; «vc_id» = word (at + 2) 1 s; «sequence_control_flag» = SequenceControlledQoS }
-
-abbrev pub totalsIn : List Field → Totals
-totalsIn fs =
+channelAt f at s =
     record {
-      last = named "last" fs;
-      «handed_on» = named "handed on" fs;
-      missing = named "missing" fs;
-      repeats = named "repeats" fs;
-      late = named "late" fs;
+      «spacecraft_id» = word at 2 s;
+      «vc_id» = word (at + 2) 1 s;
+      «sequence_control_flag» = bypassOf (word (at + 3) (flagLong f) s);
     }
 
-abbrev pub openedBy : Form → List Field → SlotState
-openedBy f fs = Opened (channelIn f fs) (named "width" fs)
-
-abbrev pub heardBy : Form → List Field → SlotState
-heardBy f fs = Heard (channelIn f fs) (named "width" fs) (totalsIn fs)
+abbrev pub totalsAt : ℕ → List ℕ → Totals
+totalsAt at s =
+    record {
+      last = word at 8 s;
+      «handed_on» = word (at + 8) 8 s;
+      missing = word (at + 16) 8 s;
+      repeats = word (at + 24) 8 s;
+      late = word (at + 32) 8 s;
+    }
 
 -- so many entries, one behind the other
 abbrev pub entriesIn : (List ℕ → SlotState) → ℕ → ℕ → List ℕ → List SlotState
@@ -71,10 +61,10 @@ FirstAt q i x = (k : Channel) → stateHolds k x ≡ true → find k (q .slots) 
 
 module _ (f : Form) where
   abbrev pub unheardIn : List ℕ → SlotState
-  unheardIn s = openedBy f (unpack (row f (Opened noChannel 0)) s)
+  unheardIn s = openedBy (unpack (row f (Opened noChannel 0)) s)
 
   abbrev pub heardIn : List ℕ → SlotState
-  heardIn s = heardBy f (unpack (row f (Heard noChannel 0 noTotals)) s)
+  heardIn s = heardBy (unpack (row f (Heard noChannel 0 noTotals)) s)
 
   -- the counts of both sections, where the second begins, and how long all is
   abbrev pub firstCount : List ℕ → ℕ
@@ -98,10 +88,21 @@ module _ (f : Form) where
   abbrev pub entriesOfOctets : List ℕ → List SlotState
   entriesOfOctets s = unheardOfOctets s ++ heardOfOctets s
 
+  -- where entry i begins, where the first n are not heard
+  abbrev pub placeOf : ℕ → ℕ → ℕ
+  placeOf n i = cond (ltb i n) (1 + i * unheardLong f) (2 + n * unheardLong f + (i - n) * heardLong f)
+
   -- the counts are small, and there are as many octets as they say
   pub record Shaped (s : List ℕ) : Type 0 where
     pub long : formLong s ≡ length s
     pub few : firstCount s + secondCount s ≤ 8
+
+  -- the flag of an entry at the front is 0 or 1, and that of each entry
+  abbrev pub FlagFits : List ℕ → Type 0
+  FlagFits s = word 3 (flagLong f) s < 2
+
+  abbrev pub Flagged : List ℕ → Type 0
+  Flagged s = (i : ℕ) → i < firstCount s + secondCount s → FlagFits (drop (placeOf (firstCount s) i) s)
 
   -- it stands above the one before it in its section
   abbrev pub Above : ChannelRecord → ℕ → ℕ → Type 0

@@ -1,10 +1,13 @@
-// The record kept over a restart: saved as octets of form 1, and restored from them.
+// The record kept over a restart: saved as octets of either form, and restored from them.
+use columns::unheard_octets;
 use restoring::all_admitted;
+use restoring::flags_fit;
 use restoring::has_form;
 use restoring::read_all;
 use saving::empty;
 use saving::lacks_flag;
 use saving::put_section;
+use uslp_form::Form;
 use uslp_kinds::DoneAnswer;
 use uslp_kinds::LengthAnswer;
 use uslp_kinds::Refusal;
@@ -15,28 +18,28 @@ ghost use mathlib.Core.Path.{_≡_};
 ghost use Rattle.uslp_kinds.specs.Outcome.{leaving};
 ghost use Rattle.uslp_kinds.specs.Answers.{paperDone, paperLength};
 ghost use Rattle.uslp_record.specs.Record.{keeping};
-ghost use Rattle.uslp_form.specs.Form.Form.{one};
 ghost use Rattle.uslp_form.specs.Saved.{saving, Restoring};
 
+mod columns;
 mod restoring;
 mod saving;
 
 // The most octets of a form: with a buffer of so many, saving is never refused for room.
-pub const MAX_FORM_LEN: usize = 354;
+pub const MAX_FORM_LEN: usize = 362;
 
-// An entry in octets: a channel that was opened but not heard, and one that was heard.
-pub(crate) const UNHEARD_LEN: usize = 4;
-
-pub(crate) const HEARD_LEN: usize = 44;
-
-// Writes the record as octets of form 1 to the front of `to`. Refuses LACKS_FLAG, SHORT_TARGET.
-pub fn save(channels: ChannelRecord, to: &mut [u8]) -> LengthAnswer
-    ensures { λ r. ⌜ leaving (paperLength r) (now (to .exit)) ≡ saving one channels (now (to .entry)) ⌝ }
+// Writes the record as octets of this form to the front of `to`. Refuses LACKS_FLAG, SHORT_TARGET.
+pub fn save(channels: ChannelRecord, form: Form, to: &mut [u8]) -> LengthAnswer
+    ensures { λ r. ⌜ leaving (paperLength r) (now (to .exit)) ≡ saving form channels (now (to .entry)) ⌝ }
 {
-    if lacks_flag(channels) {
+    if lacks_flag(channels, form) {
         return LengthAnswer::Refused(Refusal::LacksFlag);
     }
-    let out = put_section(put_section(empty(), channels, false), channels, true);
+    let out = put_section(
+        put_section(empty(), channels, form, false),
+        channels,
+        form,
+        true,
+    );
     let filled = out.octets;
     let found = to.len();
     let expected = out.len;
@@ -47,18 +50,21 @@ pub fn save(channels: ChannelRecord, to: &mut [u8]) -> LengthAnswer
     LengthAnswer::Done(expected)
 }
 
-// The record that the octets hold, in place of this one. Refuses BAD_FORM.
-pub fn restore(channels: ChannelRecord, from: &[u8]) -> Recorded
-    ensures { λ r. ⌜ Restoring one channels (now (from .entry)) (keeping (paperDone (r .answer)) (r .next)) ⌝ }
+// The record that octets of this form hold, in place of this one. Refuses BAD_FORM.
+pub fn restore(channels: ChannelRecord, form: Form, from: &[u8]) -> Recorded
+    ensures { λ r. ⌜ Restoring form channels (now (from .entry)) (keeping (paperDone (r .answer)) (r .next)) ⌝ }
 {
-    if !has_form(from) {
+    if !has_form(form, from) {
         return bad_form(channels);
     }
     let unheard = from[0] as usize;
-    let heard = from[1 + unheard * UNHEARD_LEN] as usize;
-    let total = unheard + heard;
-    let next = read_all(from, unheard, total);
-    if !all_admitted(next, unheard, total) {
+    let second = 1 + unheard_octets(form, unheard);
+    let total = unheard + from[second] as usize;
+    if !flags_fit(form, from, unheard, total) {
+        return bad_form(channels);
+    }
+    let next = read_all(form, from, unheard, total);
+    if !all_admitted(next, form, unheard, total) {
         return bad_form(channels);
     }
     Recorded {

@@ -1,7 +1,10 @@
 // Octets as entries: read into slots from the first on, then each is judged.
-use crate::HEARD_LEN;
-use crate::UNHEARD_LEN;
+use crate::columns::flag_at;
+use crate::columns::flag_len;
+use crate::columns::heard_octets;
+use crate::columns::unheard_octets;
 use crate::saving::rank_of;
+use uslp_form::Form;
 use uslp_kinds::BypassSequenceControlFlag;
 use uslp_kinds::MAX_COUNT_LEN;
 use uslp_kinds::MAX_VC_ID;
@@ -21,19 +24,19 @@ ghost use lib.ListN.{drop, getD, length};
 ghost use Rattle.uslp_octets.specs.Octets.{word};
 ghost use Rattle.uslp_record.specs.Made.{Openable, Tallied, Sound};
 ghost use Rattle.uslp_form.specs.Form.{restored};
-ghost use Rattle.uslp_form.specs.Form.Form.{one};
-ghost use Rattle.uslp_saved.specs.Reading.{channelAt, unheardIn, heardIn, firstCount, secondCount, entriesOfOctets, Shaped, Tells, FirstAt, Above, Admitted, AllAdmitted};
+ghost use Rattle.uslp_form.specs.Said.{unheardLong, heardLong};
+ghost use Rattle.uslp_saved.specs.Reading.{channelAt, totalsAt, unheardIn, heardIn, firstCount, secondCount, placeOf, entriesOfOctets, Shaped, Flagged, Tells, FirstAt, Above, Admitted, AllAdmitted};
 
 // At most eight entries, and as many octets as the two counts say.
-pub(crate) fn has_form(from: &[u8]) -> bool
-    ensures { λ r. ⌜ Tells r (Shaped one (now (from .entry))) ⌝ }
+pub(crate) fn has_form(form: Form, from: &[u8]) -> bool
+    ensures { λ r. ⌜ Tells r (Shaped form (now (from .entry))) ⌝ }
 {
     let found = from.len();
     if found == 0 {
         return false;
     }
     let unheard = from[0] as usize;
-    let second = 1 + unheard * UNHEARD_LEN;
+    let second = 1 + unheard_octets(form, unheard);
     if found <= second {
         return false;
     }
@@ -41,18 +44,33 @@ pub(crate) fn has_form(from: &[u8]) -> bool
     if unheard + heard > SLOTS {
         return false;
     }
-    found == second + 1 + heard * HEARD_LEN
+    found == second + 1 + heard_octets(form, heard)
+}
+
+// Each entry's flag is 0 or 1.
+pub(crate) fn flags_fit(form: Form, from: &[u8], unheard: usize, total: usize) -> bool
+    requires { ⌜ Shaped form (now from) × (unheard ≡ firstCount form (now from)) × (total ≡ firstCount form (now from) + secondCount form (now from)) ⌝ }
+    ensures { λ r. ⌜ Tells r (Flagged form (now (from .entry))) ⌝ }
+{
+    let mut i: usize = 0;
+    while i < total {
+        if flag_at(form, from, place_of(form, unheard, i) + 3) > 1 {
+            return false;
+        }
+        i += 1;
+    }
+    true
 }
 
 // All entries, in slots from the first on.
-pub(crate) fn read_all(from: &[u8], unheard: usize, total: usize) -> ChannelRecord
-    requires { ⌜ Shaped one (now from) × (unheard ≡ firstCount one (now from)) × (total ≡ firstCount one (now from) + secondCount one (now from)) ⌝ }
-    ensures { λ r. ⌜ r ≡ restored (entriesOfOctets one (now (from .entry))) ⌝ }
+pub(crate) fn read_all(form: Form, from: &[u8], unheard: usize, total: usize) -> ChannelRecord
+    requires { ⌜ Shaped form (now from) × (unheard ≡ firstCount form (now from)) × (total ≡ firstCount form (now from) + secondCount form (now from)) ⌝ }
+    ensures { λ r. ⌜ r ≡ restored (entriesOfOctets form (now (from .entry))) ⌝ }
 {
     let mut next = ChannelRecord::new();
     let mut i: usize = 0;
     while i < total {
-        let state = entry_at(from, unheard, i);
+        let state = entry_at(form, from, unheard, i);
         next.slots[i] = Slot { state };
         i += 1;
     }
@@ -60,55 +78,77 @@ pub(crate) fn read_all(from: &[u8], unheard: usize, total: usize) -> ChannelReco
 }
 
 // Entry i, where the first are not heard.
-fn entry_at(from: &[u8], unheard: usize, i: usize) -> SlotState
-    requires { ⌜ Shaped one (now from) × (unheard ≡ firstCount one (now from)) × (i < firstCount one (now from) + secondCount one (now from)) ⌝ }
-    ensures { λ r. ⌜ r ≡ getD (entriesOfOctets one (now (from .entry))) i SlotState.Closed ⌝ }
+fn entry_at(form: Form, from: &[u8], unheard: usize, i: usize) -> SlotState
+    requires { ⌜ Shaped form (now from) × (unheard ≡ firstCount form (now from)) × (i < firstCount form (now from) + secondCount form (now from)) ⌝ }
+    ensures { λ r. ⌜ r ≡ getD (entriesOfOctets form (now (from .entry))) i SlotState.Closed ⌝ }
+{
+    let at = place_of(form, unheard, i);
+    if i < unheard {
+        return read_unheard(form, from, at);
+    }
+    read_heard(form, from, at)
+}
+
+// Where entry i begins.
+fn place_of(form: Form, unheard: usize, i: usize) -> usize
+    requires { ⌜ (unheard < 256) × (i < 256) ⌝ }
+    ensures { λ r. ⌜ (r ≡ placeOf form unheard i) × (r < 12802) ⌝ }
 {
     if i < unheard {
-        return read_unheard(from, 1 + i * UNHEARD_LEN);
+        return 1 + unheard_octets(form, i);
     }
-    read_heard(from, 2 + unheard * UNHEARD_LEN + (i - unheard) * HEARD_LEN)
+    2 + unheard_octets(form, unheard) + heard_octets(form, i - unheard)
 }
 
-fn read_unheard(from: &[u8], at: usize) -> SlotState
-    requires { ⌜ at + 4 ≤ length (now from) ⌝ }
-    ensures { λ r. ⌜ r ≡ unheardIn one (drop at (now (from .entry))) ⌝ }
+fn read_unheard(form: Form, from: &[u8], at: usize) -> SlotState
+    requires { ⌜ at + unheardLong form ≤ length (now from) ⌝ }
+    ensures { λ r. ⌜ r ≡ unheardIn form (drop at (now (from .entry))) ⌝ }
 {
-    let channel = channel_at(from, at);
+    let channel = channel_at(form, from, at);
+    let flag = flag_len(form);
     SlotState::Opened {
         channel,
-        width: from[at + 3],
+        width: from[at + 3 + flag],
     }
 }
 
-fn read_heard(from: &[u8], at: usize) -> SlotState
-    requires { ⌜ at + 44 ≤ length (now from) ⌝ }
-    ensures { λ r. ⌜ r ≡ heardIn one (drop at (now (from .entry))) ⌝ }
+fn read_heard(form: Form, from: &[u8], at: usize) -> SlotState
+    requires { ⌜ at + heardLong form ≤ length (now from) ⌝ }
+    ensures { λ r. ⌜ r ≡ heardIn form (drop at (now (from .entry))) ⌝ }
 {
-    let channel = channel_at(from, at);
-    let totals = Totals {
-        last: eight_at(from, at + 4),
-        handed_on: eight_at(from, at + 12),
-        missing: eight_at(from, at + 20),
-        repeats: eight_at(from, at + 28),
-        late: eight_at(from, at + 36),
-    };
+    let channel = channel_at(form, from, at);
+    let flag = flag_len(form);
+    let totals = totals_at(from, at + 4 + flag);
     SlotState::Heard {
         channel,
-        width: from[at + 3],
+        width: from[at + 3 + flag],
         totals,
     }
 }
 
-// Form 1 is for sequence-controlled channels.
-fn channel_at(from: &[u8], at: usize) -> Channel
-    requires { ⌜ at + 4 ≤ length (now from) ⌝ }
-    ensures { λ r. ⌜ r ≡ channelAt one at (now (from .entry)) ⌝ }
+// A column that is left out says 0: form 1 is for sequence-controlled channels.
+fn channel_at(form: Form, from: &[u8], at: usize) -> Channel
+    requires { ⌜ at + unheardLong form ≤ length (now from) ⌝ }
+    ensures { λ r. ⌜ r ≡ channelAt form at (now (from .entry)) ⌝ }
 {
+    let flag = flag_at(form, from, at + 3);
     Channel {
         spacecraft_id: be_u16(from[at], from[at + 1]),
         vc_id: from[at + 2],
-        sequence_control_flag: BypassSequenceControlFlag::SequenceControlledQoS,
+        sequence_control_flag: BypassSequenceControlFlag::from_number(flag),
+    }
+}
+
+fn totals_at(from: &[u8], at: usize) -> Totals
+    requires { ⌜ at + 40 ≤ length (now from) ⌝ }
+    ensures { λ r. ⌜ r ≡ totalsAt at (now (from .entry)) ⌝ }
+{
+    Totals {
+        last: eight_at(from, at),
+        handed_on: eight_at(from, at + 8),
+        missing: eight_at(from, at + 16),
+        repeats: eight_at(from, at + 24),
+        late: eight_at(from, at + 32),
     }
 }
 
@@ -121,13 +161,18 @@ fn eight_at(from: &[u8], at: usize) -> u64
 }
 
 // Each of the entries is as a good form asks.
-pub(crate) fn all_admitted(channels: ChannelRecord, unheard: usize, total: usize) -> bool
+pub(crate) fn all_admitted(
+    channels: ChannelRecord,
+    form: Form,
+    unheard: usize,
+    total: usize,
+) -> bool
     requires { ⌜ total ≤ 8 ⌝ }
-    ensures { λ r. ⌜ Tells r (AllAdmitted one channels unheard total) ⌝ }
+    ensures { λ r. ⌜ Tells r (AllAdmitted form channels unheard total) ⌝ }
 {
     let mut i: usize = 0;
     while i < total {
-        if !admitted(channels, unheard, i) {
+        if !admitted(channels, form, unheard, i) {
             return false;
         }
         i += 1;
@@ -136,9 +181,9 @@ pub(crate) fn all_admitted(channels: ChannelRecord, unheard: usize, total: usize
 }
 
 // The entry in slot i is one that calls make, stands above the one before it in its section, and no slot before it holds its channel.
-fn admitted(channels: ChannelRecord, unheard: usize, i: usize) -> bool
+fn admitted(channels: ChannelRecord, form: Form, unheard: usize, i: usize) -> bool
     requires { ⌜ i < 8 ⌝ }
-    ensures { λ r. ⌜ Tells r (Admitted one channels unheard i) ⌝ }
+    ensures { λ r. ⌜ Tells r (Admitted form channels unheard i) ⌝ }
 {
     let slots = channels.slots;
     let slot = slots[i];
@@ -146,15 +191,15 @@ fn admitted(channels: ChannelRecord, unheard: usize, i: usize) -> bool
     if !sound(state) {
         return false;
     }
-    if !above(channels, unheard, i) {
+    if !above(channels, form, unheard, i) {
         return false;
     }
     is_first(channels, i, state)
 }
 
-fn above(channels: ChannelRecord, unheard: usize, i: usize) -> bool
+fn above(channels: ChannelRecord, form: Form, unheard: usize, i: usize) -> bool
     requires { ⌜ i < 8 ⌝ }
-    ensures { λ r. ⌜ Tells r (Above one channels unheard i) ⌝ }
+    ensures { λ r. ⌜ Tells r (Above form channels unheard i) ⌝ }
 {
     if i == 0 {
         return true;
@@ -167,7 +212,7 @@ fn above(channels: ChannelRecord, unheard: usize, i: usize) -> bool
     let state = slot.state;
     let before = slots[i - 1];
     let lower = before.state;
-    rank_of(lower) < rank_of(state)
+    rank_of(form, lower) < rank_of(form, state)
 }
 
 fn is_first(channels: ChannelRecord, i: usize, state: SlotState) -> bool

@@ -6,7 +6,6 @@ use native.Mathlib.Nat.{sub-zero}
 use native.Mathlib.Omega.{arith}
 use lib.ListN.{length, take}
 use Rattle.uslp_form.specs.Form.{Whole, formOf}
-use Rattle.uslp_form.specs.Form.Form.{one}
 use Rattle.uslp_form.proofs.Claims.{saving-lacks}
 use Rattle.uslp_saved.specs.Choice.{written}
 use Rattle.uslp_record.proofs.Seek.{long-of}
@@ -17,22 +16,23 @@ use Rattle.uslp_saved.proofs.save.Tie as tie
 -- the form lacks no flag, and both sections stand in what was put
 put-all : (p : tie.After-put-section2) → let o = p .put-section2 .result in
     let r = p .before .before .before .before .before .before .args .channels in
-    Whole one r × (o .len ≡ length (formOf one r)) × (written o ≡ formOf one r)
+    let f = p .before .before .before .before .before .before .args .form in
+    Whole f r × (o .len ≡ length (formOf f r)) × (written o ≡ formOf f r)
 put-all p =
     let l = p .before .before .before in
     let r = l .before .before .before .args .channels in
-    let b = both-sections _ _ _ r (p .before .before .empty .ensures) (p .before .put-section .ensures) (p .put-section2 .ensures) in
+    let b = both-sections (l .before .before .before .args .form) _ _ _ r (p .before .before .empty .ensures) (p .before .put-section .ensures) (p .put-section2 .ensures) in
     (sym (l .before .lacks-flag .ensures) ∙ l .if1 .left, b .0, b .1)
 
 returns : tie.Need-returns
 returns c =
     let s = c .before .before .before in
-    sym (saving-lacks one (s .args .channels) (s .args .to .now) (sym (c .before .lacks-flag .ensures) ∙ c .if1 .taken))
+    sym (saving-lacks (s .args .form) (s .args .channels) (s .args .to .now) (sym (c .before .lacks-flag .ensures) ∙ c .if1 .taken))
 
 put-section-requires : tie.Need-put-section-requires
 put-section-requires c κs =
     let s = c .before .before .before .before in
-    omega (arith, c .empty .ensures .0, sections-fit (s .args .channels) (long-of (s .args .channels .slots) (s .good .0 .1 .1 .0 .1 .0 .1)))
+    omega (arith, c .empty .ensures .0, sections-fit (s .args .form) (s .args .channels) (long-of (s .args .channels .slots) (s .good .0 .1 .1 .0 .1 .0 .1)))
 
 put-section-requires-2 : tie.Need-put-section-requires-2
 put-section-requires-2 c κs =
@@ -41,7 +41,7 @@ put-section-requires-2 c κs =
       arith,
       c .before .empty .ensures .0,
       c .put-section .ensures .0,
-      sections-fit (s .args .channels)
+      sections-fit (s .args .form) (s .args .channels)
           (long-of (s .args .channels .slots) (s .good .0 .1 .1 .0 .1 .0 .1)),
     )
 
@@ -50,7 +50,7 @@ returns-2 c =
     let p = c .before .before in
     let s = p .before .before .before .before .before .before in
     let b = put-all p in
-    save-short (s .args .channels) (s .args .to .now) _ (b .0) (b .1) (omega arith)
+    save-short (s .args .form) (s .args .channels) (s .args .to .now) _ (b .0) (b .1) (omega arith)
 
 part-copy-octets-end : tie.Need-part-copy-octets-end
 part-copy-octets-end c = let b = put-all (c .before .before .before) in cells _ _ (b .1, b .2)
@@ -61,7 +61,7 @@ returns-3 c =
     let s = p .before .before .before .before .before .before in
     let b = put-all p in
     let o = p .put-section2 .result in
-    save-done (s .args .channels) (s .args .to .now) (o .len) (b .0) (b .1) (take (o .len - 0) (o .octets)) _ (omega arith)
+    save-done (s .args .form) (s .args .channels) (s .args .to .now) (o .len) (b .0) (b .1) (take (o .len - 0) (o .octets)) _ (omega arith)
     (ap (λ (k : ℕ). take k (o .octets)) (sub-zero (o .len)) ∙ b .2) (c .before .before .copy-octets .ensures)
 
 pub save-spec : {M : Type 1} → statement M

@@ -2,17 +2,16 @@
 use Prim.Native.Nat.{_-_, _≤_}
 use native.Mathlib.Omega.{arith}
 use borrow.Author.Tests.{not-true, not-false}
-use Rattle.uslp_form.specs.Form.Form.{one}
 use Rattle.uslp_saved.specs.Reading.{AllAdmitted}
 use Rattle.uslp_saved.proofs.Telling.{tells-so, tells-not, admitted-more, admitted-all}
 use Rattle.uslp_saved.proofs.restoring.all_admitted.Statement.{statement}
 use Rattle.uslp_saved.proofs.restoring.all_admitted.Tie as tie
 
 abbrev Inv-loop : tie.InvT-loop
-Inv-loop channels unheard total i₀ i = (i ≤ total) × AllAdmitted one channels unheard i
+Inv-loop channels form unheard total i₀ i = (i ≤ total) × AllAdmitted form channels unheard i
 
 abbrev μ-loop : tie.MeasureT-loop
-μ-loop channels unheard total i₀ i = total - i
+μ-loop channels form unheard total i₀ i = total - i
 
 loop-holds : tie.Need-loop-holds Inv-loop μ-loop
 loop-holds c = (omega arith, λ i h. absurd (omega arith))
@@ -29,13 +28,13 @@ loop-again : tie.Need-loop-again Inv-loop μ-loop
 loop-again c =
     let l = c .before .before .before in
     let a = l .before .args in
-    (omega arith, admitted-more (a .channels) (a .unheard) (l .loop .i) (l .loop .inv .1) (c .before .admitted .ensures .0 (not-false _ (c .if1 .left))))
+    (omega arith, admitted-more (a .form) (a .channels) (a .unheard) (l .loop .i) (l .loop .inv .1) (c .before .admitted .ensures .0 (not-false _ (c .if1 .left))))
 
 returns-2 : tie.Need-returns-2 Inv-loop μ-loop
 returns-2 c =
     let l = c .before in
     let a = l .before .args in
-    tells-so (admitted-all (a .channels) (a .unheard) (l .loop .i) (a .total) (omega arith) (l .loop .inv .1))
+    tells-so (admitted-all (a .form) (a .channels) (a .unheard) (l .loop .i) (a .total) (omega arith) (l .loop .inv .1))
 
 pub all-admitted-spec : {M : Type 1} → statement M
 all-admitted-spec =

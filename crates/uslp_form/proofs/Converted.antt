@@ -1,0 +1,305 @@
+-- Converting: done, it leaves the form of the same entries; both ways round; and what is restored from either is the same.
+use mathlib.Core.Path.{_≡_, refl, sym, _∙_, ap, subst}
+use mathlib.Core.Logic.{_↔_}
+use mathlib.Core.Bool.{Bool, true, false}
+use mathlib.Core.List.{List, [], _∷_, _++_}
+use Prim.Native.Nat.{ℕ, _+_, _*_, _-_, _<_, _≤_}
+use native.Mathlib.Omega.{arith}
+use native.Mathlib.Decide.{decLt}
+use lib.ListN.{length, take, drop, replicate, length-append}
+use lib.Seq.{take-append-seam}
+use Rattle.uslp_kinds.specs.Kinds.{bypassNumber}
+use Rattle.uslp_kinds.specs.Outcome.{Outcome, done, refused, Written, leaving}
+use Rattle.uslp_kinds.specs.Answers.{paperLength}
+use Rattle.uslp_kinds.specs.declared.LengthAnswer.{LengthAnswer}
+use Rattle.uslp_kinds.specs.declared.LengthAnswer.the-variants.{Done as Filled}
+use Rattle.uslp_kinds.proofs.Back.{leaving-one}
+use Rattle.uslp_kinds.proofs.Outcomes.{not-done}
+use Rattle.uslp_record.proofs.Back.{keeping-one}
+use Rattle.uslp_record.specs.Slots.{slotOf}
+use Rattle.uslp_record.specs.Record.{Kept, keeping}
+use Rattle.uslp_record.specs.declared.SlotState.{SlotState}
+use Rattle.uslp_record.specs.declared.SlotState.the-variants.{Closed, Opened, Heard}
+use Rattle.uslp_record.specs.declared.ChannelRecord.{ChannelRecord}
+use Rattle.uslp_form.specs.Entries.{Each}
+use Rattle.uslp_form.specs.declared.Form.{Form}
+use Rattle.uslp_form.specs.declared.Form.the-variants.{One, Two}
+use Rattle.uslp_form.specs.Form.{rank, anyLacks, EntryWhole, Whole, form, formOf, Ascending, GoodForm, restored}
+use Rattle.uslp_form.specs.Saved.{saving, Restoring, Converting}
+use Rattle.uslp_form.specs.Saved.Converting.{good, bad}
+use Rattle.uslp_form.proofs.Each.{each-left, each-right, each-both}
+use Rattle.uslp_form.proofs.Flags.{not-expedited, none-lacks, lacks-none, Expedited, lacks-exactly, whole-exactly, whole-two}
+use Rattle.uslp_form.proofs.Restored.{slots-each, each-restored}
+use Rattle.uslp_form.proofs.Rows.{good-one, restores-done}
+use Rattle.uslp_form.proofs.Trips.{saved-again}
+use Rattle.uslp_form.proofs.Claims.{saving-lacks, saving-done, saving-short, saving-whole, saves, saving-kept, restoring-good, restoring-bad, refused-bad}
+
+-- a refusal is the same of whatever result
+refused-alike : {A B : Type 0} {n m : ℕ} {vs ws : List ℕ} → _≡_ {A = Outcome A} (refused n vs) (refused m ws) → _≡_ {A = Outcome B} (refused n vs) (refused m ws)
+refused-alike e = cc
+
+-- where neither form lacks the flag of an entry, both have it in one place of the order
+rank-scaled : (x : SlotState) → EntryWhole One x → rank Two x ≡ rank One x * 256
+rank-scaled Closed e = omega arith
+rank-scaled (Opened k w) e = omega (arith, ap bypassNumber (not-expedited (k .«sequence_control_flag») e))
+rank-scaled (Heard k w t) e = omega (arith, ap bypassNumber (not-expedited (k .«sequence_control_flag») e))
+
+module _ (f g : Form) where
+  abbrev Both : SlotState → Type 0
+  Both x = EntryWhole f x × EntryWhole g x
+
+rank-across : (f g : Form) (x y : SlotState) → Both f g x → Both f g y → rank f x < rank f y → rank g x < rank g y
+rank-across One One x y a b h = h
+rank-across One Two x y a b h = omega (arith, rank-scaled x (a .0), rank-scaled y (b .0))
+rank-across Two One x y a b h = omega (arith, rank-scaled x (a .1), rank-scaled y (b .1))
+rank-across Two Two x y a b h = h
+
+module _ (f g : Form) where
+  ascends-across : (l : List SlotState) → Each (Both f g) l → Ascending f l → Ascending g l
+  ascends-across [] a o = tt
+  ascends-across (x ∷ l) a o = (
+    each-both (Both f g) (λ (y : SlotState). rank f x < rank f y) (λ (y : SlotState). rank g x < rank g y)
+        (λ y b h. rank-across f g x y (a .0) b h) l (a .1) (o .0),
+    ascends-across l (a .1) (o .1),
+  )
+
+  -- the entries of a good form are a good form of the other, where that lacks no flag of them
+  module _ {s : List ℕ} (us hs : List SlotState) (k : GoodForm f s us hs) (whole : Each (EntryWhole g) (us ++ hs)) where
+    both : Each (Both f g) (us ++ hs)
+    both = each-both (EntryWhole f) (EntryWhole g) (Both f g) (λ x a b. (a, b)) (us ++ hs) (k .flags) whole
+
+    pub good-across : GoodForm g (form g us hs) us hs
+    good-across = record {
+      octets = refl;
+      unheard = k .unheard;
+      heard = k .heard;
+      flags = whole;
+      sound = k .sound;
+      first = ascends-across us (each-left (Both f g) us hs both) (k .first);
+      second = ascends-across hs (each-right (Both f g) us hs both) (k .second);
+      once = k .once;
+      few = k .few;
+    }
+
+    -- and saving the record of them writes that form
+    pub saved-across : formOf g (restored (us ++ hs)) ≡ form g us hs
+    saved-across = saved-again g (form g us hs) us hs good-across
+
+    pub whole-restored : Whole g (restored (us ++ hs))
+    whole-restored = lacks-none g (restored (us ++ hs) .slots) (each-restored (us ++ hs) (k .few) (EntryWhole g) refl whole)
+
+  entries-whole : (l : List SlotState) → Whole g (restored l) → Each (EntryWhole g) l
+  entries-whole l w = slots-each (EntryWhole g) l (replicate (8 - length l) (slotOf Closed)) (none-lacks g (restored l .slots) w)
+
+  module _ (s b : List ℕ) where
+    -- A converting that is done: octets s are a good form of some entries, and what it wrote is the other form of the same. The octets behind
+    -- it stay.
+    pub record Converts (n : ℕ) (t : List ℕ) : Type 0 where
+      pub unheard : List SlotState
+      pub heard : List SlotState
+      pub from : GoodForm f s unheard heard
+      pub to : GoodForm g (form g unheard heard) unheard heard
+      pub count : n ≡ length (form g unheard heard)
+      pub left : t ≡ form g unheard heard ++ drop (length (form g unheard heard)) b
+
+    pub converts : {n : ℕ} {t : List ℕ} → Converting f g s b (leaving (done n) t) → Converts n t
+    converts {n} {t} h = go h refl
+      where
+        go : {o : Written ℕ} → Converting f g s b o → o ≡ leaving (done n) t → Converts n t
+        go (good us hs k) e =
+            let d = saves g (restored (us ++ hs)) b (sym e) in
+            let w = entries-whole (us ++ hs) (d .whole) in
+            let a = saved-across us hs k w in
+            record {
+              unheard = us;
+              heard = hs;
+              from = k;
+              to = good-across us hs k w;
+              count = d .count ∙ ap length a;
+              left = d .left ∙ ap (λ (l : List ℕ). l ++ drop (length l) b) a;
+            }
+        go (bad m) e = absurd (not-done (leaving-one e .0))
+
+    -- what it wrote is that form
+    pub wrote-across : {n : ℕ} {t : List ℕ} (c : Converts n t) → take n t ≡ form g (c .unheard) (c .heard)
+    wrote-across c =
+        let w = form g (c .unheard) (c .heard) in
+        (λ i. take (c .count i) (c .left i)) ∙ take-append-seam w (drop (length w) b)
+
+    -- which stands in the buffer; the same of the answer of a call
+    converting-fits : {n : ℕ} {t : List ℕ} → Converting f g s b (leaving (done n) t) → n ≤ length t
+    converting-fits h =
+        let d = converts h in
+        let w = form g (d .unheard) (d .heard) in
+        omega (arith, d .count, ap length (d .left), length-append w (drop (length w) b))
+
+    pub converted-within : (t : List ℕ) (a : LengthAnswer) (n : ℕ) → a ≡ Filled n → Converting f g s b (leaving (paperLength a) t) → n ≤ length t
+    converted-within t a n e h = converting-fits (subst (λ (x : LengthAnswer). Converting f g s b (leaving (paperLength x) t)) e h)
+
+    -- a converting leaves one thing only
+    pub converting-good : (us hs : List SlotState) {o : Written ℕ} → GoodForm f s us hs → Converting f g s b o → o ≡ saving g (restored (us ++ hs)) b
+    converting-good us hs k (good vs gs j) =
+        let e = good-one f j k in
+        λ i. saving g (restored (e .0 i ++ e .1 i)) b
+    converting-good us hs k (bad m) = absurd (m us hs k)
+
+    pub converting-bad : {o : Written ℕ} → ((us hs : List SlotState) → GoodForm f s us hs → ⊥) → Converting f g s b o → o ≡ leaving (refused 18 []) b
+    converting-bad n (good us hs k) = absurd (n us hs k)
+    converting-bad n (bad m) = refl
+
+    pub converting-one : {o p : Written ℕ} → Converting f g s b o → Converting f g s b p → o ≡ p
+    converting-one (good us hs k) q = sym (converting-good us hs k q)
+    converting-one (bad m) q = sym (converting-bad m q)
+
+    -- done exactly if the octets are a good form whose flags the other does not lack, and there is room
+    pub record Convertible : Type 0 where
+      pub unheard : List SlotState
+      pub heard : List SlotState
+      pub from : GoodForm f s unheard heard
+      pub whole : Whole g (restored (unheard ++ heard))
+      pub room : length (form g unheard heard) ≤ length b
+
+    pub record Done : Type 0 where
+      pub count : ℕ
+      pub left : List ℕ
+      pub is : Converting f g s b (leaving (done count) left)
+
+    pub converting-done : (c : Convertible)
+        → let w = form g (c .unheard) (c .heard) in Converting f g s b (leaving (done (length w)) (w ++ drop (length w) b))
+    converting-done c =
+        let r = restored (c .unheard ++ c .heard) in
+        let a = saved-across (c .unheard) (c .heard) (c .from) (entries-whole (c .unheard ++ c .heard) (c .whole)) in
+        subst (Converting f g s b)
+        (saving-done g r b (c .whole) (omega (arith, ap length a, c .room)) ∙ ap (λ (l : List ℕ). leaving (done (length l)) (l ++ drop (length l) b)) a)
+        (good (c .unheard) (c .heard) (c .from))
+
+    pub done-exactly : Done ↔ Convertible
+    done-exactly = (there, λ c. record { count = _; left = _; is = converting-done c })
+      where
+        there : Done → Convertible
+        there d =
+            let c = converts (d .is) in
+            let us = c .unheard in
+            let hs = c .heard in
+            let w = whole-restored us hs (c .from) (c .to .flags) in
+            let a = saved-across us hs (c .from) (c .to .flags) in
+            let e = converting-good us hs (c .from) (d .is) in
+            record {
+              unheard = us;
+              heard = hs;
+              from = c .from;
+              whole = w;
+              room = elim (decLt (length b) (length (form g us hs))) [
+                | yes h ↦ absurd (not-done (sym (leaving-one (e ∙ saving-short g (restored (us ++ hs)) b w (omega (arith, ap length a))) .0)))
+                | no h ↦ omega arith
+              ];
+            }
+
+    -- 19 where the other form lacks the flag of an entry, whatever room there is; else 2 where there is none
+    module _ (us hs : List SlotState) (k : GoodForm f s us hs) {o : Written ℕ} (h : Converting f g s b o) where
+      pub converting-lacks : anyLacks g (restored (us ++ hs) .slots) ≡ true → o ≡ leaving (refused 19 []) b
+      converting-lacks e = converting-good us hs k h ∙ saving-lacks g (restored (us ++ hs)) b e
+
+      pub converting-short : Each (EntryWhole g) (us ++ hs) → length b < length (form g us hs)
+          → o ≡ leaving (refused 2 (length b ∷ length (form g us hs) ∷ [])) b
+      converting-short w e =
+          let a = saved-across us hs k w in
+          converting-good us hs k h
+          ∙ saving-short g (restored (us ++ hs)) b (whole-restored us hs k w) (omega (arith, ap length a))
+          ∙ ap (λ (l : List ℕ). leaving (refused 2 (length b ∷ length l ∷ [])) b) a
+
+    -- it is restoring, whatever record is found, and then saving
+    pub converting-restored : {r q : ChannelRecord} → Restoring f r s (keeping (done tt) q) → Converting f g s b (saving g q b)
+    converting-restored h =
+        let d = restores-done f h in
+        subst (λ (q : ChannelRecord). Converting f g s b (saving g q b)) (d .is) (good (d .unheard) (d .heard) (d .is-good))
+
+    pub converting-unrestored : {r q : ChannelRecord} {n : ℕ} {vs : List ℕ} → Restoring f r s (keeping (refused n vs) q)
+        → Converting f g s b (leaving (refused n vs) b)
+    converting-unrestored {r} {q} {n} {vs} h =
+        let none = refused-bad f r s h in
+        subst (λ (o : Outcome ℕ). Converting f g s b (leaving o b)) (refused-alike (keeping-one (sym (restoring-bad f r s _ none h)) .0)) (bad none)
+
+    -- refused, it leaves what it found
+    pub converting-kept : {n : ℕ} {vs t : List ℕ} → Converting f g s b (leaving (refused n vs) t) → t ≡ b
+    converting-kept {n} {vs} {t} h = go h refl
+      where
+        go : {o : Written ℕ} → Converting f g s b o → o ≡ leaving (refused n vs) t → t ≡ b
+        go (good us hs k) e = saving-kept g (restored (us ++ hs)) b e
+        go (bad m) e = sym (leaving-one e .1)
+
+-- There and back: what a converting wrote, converted back into whatever buffer has room, is the octets that it came from. From form 1 this is old to
+-- new to old, from form 2 new to old to new.
+module _ {f g : Form} {s b : List ℕ} {n : ℕ} {t : List ℕ} (h : Converting f g s b (leaving (done n) t)) where
+  pub told : Converts f g s b n t
+  told = converts f g s b h
+
+  -- what it wrote is a good form of the same entries
+  pub good-wrote : GoodForm g (take n t) (told .unheard) (told .heard)
+  good-wrote = subst (λ (l : List ℕ). GoodForm g l (told .unheard) (told .heard)) (sym (wrote-across f g s b told)) (told .to)
+
+  pub there-and-back : (c : List ℕ) → length s ≤ length c → {o : Written ℕ} → Converting g f (take n t) c o
+      → o ≡ leaving (done (length s)) (s ++ drop (length s) c)
+  there-and-back c room k =
+      let us = told .unheard in
+      let hs = told .heard in
+      let is = told .from .octets in
+      let back : Convertible g f (take n t) c = record {
+        unheard = us;
+        heard = hs;
+        from = good-wrote;
+        whole = whole-restored g f us hs good-wrote (told .from .flags);
+        room = omega (arith, ap length is);
+      } in
+      converting-one g f (take n t) c k (converting-done g f (take n t) c back) ∙ ap (λ (l : List ℕ). leaving (done (length l)) (l ++ drop (length l) c)) (sym is)
+
+  -- to its own form: the octets that it came from
+  pub to-itself : f ≡ g → take n t ≡ s
+  to-itself e = wrote-across f g s b told ∙ ap (λ (x : Form). form x (told .unheard) (told .heard)) (sym e) ∙ sym (told .from .octets)
+
+  -- what is restored from either is the same, whatever record is found: done, and the record of the entries
+  pub restores-alike : {r : ChannelRecord} {o p : Kept (Unit {0})} → Restoring f r s o → Restoring g r (take n t) p → o ≡ p
+  restores-alike {r} {o} {p} a b =
+      restoring-good f r s (told .unheard) (told .heard) o (told .from) a ∙ sym (restoring-good g r (take n t) (told .unheard) (told .heard) p good-wrote b)
+
+-- new to old is done exactly if the octets are a good form 2 in which no channel is expedited, and there is room
+pub record Downable (s b : List ℕ) : Type 0 where
+  pub unheard : List SlotState
+  pub heard : List SlotState
+  pub from : GoodForm Two s unheard heard
+  pub plain : Expedited (restored (unheard ++ heard)) → ⊥
+  pub room : length (form One unheard heard) ≤ length b
+
+pub down-exactly : (s b : List ℕ) → Done Two One s b ↔ Downable s b
+down-exactly s b = (
+  λ d.
+      let c = done-exactly Two One s b .0 d in
+      record {
+        unheard = c .unheard;
+        heard = c .heard;
+        from = c .from;
+        plain = whole-exactly (restored (c .unheard ++ c .heard)) .0 (c .whole);
+        room = c .room;
+      },
+  λ c.
+      done-exactly Two One s b .1 (record {
+        unheard = c .unheard;
+        heard = c .heard;
+        from = c .from;
+        whole = whole-exactly (restored (c .unheard ++ c .heard)) .1 (c .plain);
+        room = c .room;
+      }),
+)
+
+-- with an expedited channel it is 19, whatever room there is
+pub down-lacks : (s b : List ℕ) (us hs : List SlotState) → GoodForm Two s us hs → Expedited (restored (us ++ hs)) → {o : Written ℕ}
+    → Converting Two One s b o → o ≡ leaving (refused 19 []) b
+down-lacks s b us hs k x h = converting-lacks Two One s b us hs k h (lacks-exactly (restored (us ++ hs)) .1 x)
+
+-- old to new is never 19: form 2 lacks no flag
+pub up-lacks-none : (s b : List ℕ) {vs t : List ℕ} → Converting One Two s b (leaving (refused 19 vs) t) → ⊥
+up-lacks-none s b {vs} {t} h = go h refl
+  where
+    go : {o : Written ℕ} → Converting One Two s b o → o ≡ leaving (refused 19 vs) t → ⊥
+    go (good us hs k) e = saving-whole Two (restored (us ++ hs)) b (whole-two (restored (us ++ hs))) e
+    go (bad m) e = let d = leaving-one e .0 in let z : _≡_ {A = ℕ} 18 19 = cc in omega arith
