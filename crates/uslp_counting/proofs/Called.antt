@@ -23,7 +23,8 @@ use Rattle.uslp_form.specs.declared.Form.the-variants.{Two}
 use Rattle.uslp_form.proofs.Flags.{none-lacks, whole-two}
 use Rattle.uslp_form.proofs.Restored.{eight-restored}
 use Rattle.uslp_form.proofs.Trips.{unheardOf, heardOf, entriesOf, all-entries, good-saved, made-good}
-use Rattle.uslp_form.proofs.Converted.{good-across, saved-across, whole-restored, converting-done}
+use Rattle.uslp_form.proofs.Across.{good-across, saved-across, whole-restored}
+use Rattle.uslp_form.proofs.Converted.{converting-done}
 use Rattle.uslp_form.proofs.Rows.{sound-fits, restores-done, restores-refused}
 use Rattle.uslp_form.proofs.Claims.{saving-done, Back, restores-saved, comes-back, form-within}
 use Rattle.uslp_reader.specs.EndToEnd.{cut}

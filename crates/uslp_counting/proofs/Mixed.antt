@@ -168,7 +168,8 @@ unfolding places
 not-without demand =
     let made = made-before sender led-misled made-begun (are-heard SequenceControlledQoS 0, (are-heard ExpeditedQoS 7, tt)) in
     let d = demand craft refl 1 false sender (omega arith) (omega arith) emptyRecord begun refl begins (arrives 0 [] ∷ hurried ∷ [])
-    (handingAt sender 0 0 ∷ []) misled led-misled (tt, (tt, tt)) (back misled) (restarts-by One misled made whole-misled) (arrives 1 [] ∷ []) [] wronged led-wrong
+    (handingAt sender 0 0 ∷ []) misled led-misled (tt, (tt, tt)) (back misled) (restarts-by One misled made whole-misled)
+    (arrives 1 [] ∷ []) [] wronged led-wrong
     (near 1 (omega arith)) in
     let z : _≡_ {A = ℕ} 6 0 = sym six-missing ∙ d .1 ∙ lost-two 1 (omega arith) in
     omega arith

@@ -97,7 +97,8 @@ origin (wrote fit w) us hs k = record { form = _; octets = _; fits = fit; wrote 
 origin {r} (converted {f = f} {g = g} h c) us hs k =
     let d = entries-told c in
     let e = good-one g (good-converted c) k in
-    subst (λ (l : List SlotState). Origin r us l) (e .1) (subst (λ (l : List SlotState). Origin r l (d .heard)) (e .0) (origin h (d .unheard) (d .heard) (d .from)))
+    subst (λ (l : List SlotState). Origin r us l) (e .1)
+    (subst (λ (l : List SlotState). Origin r l (d .heard)) (e .0) (origin h (d .unheard) (d .heard) (d .from)))
 
 -- and these are the entries that were saved
 module _ {r : ChannelRecord} {us hs : List SlotState} (o : Origin r us hs) where

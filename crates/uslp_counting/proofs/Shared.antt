@@ -1,6 +1,6 @@
 -- A pass shared both ways: the oven's place 0 arrives here; the record is saved by form 2, converted to form 1 and restored at a console not yet
 -- updated, where place 2 arrives; it is saved there by form 1, converted to form 2 and restored here. One is missing.
-use mathlib.Core.Path.{_≡_, refl, sym, _∙_, ap, subst}
+use mathlib.Core.Path.{_≡_, refl, sym, _∙_}
 use mathlib.Core.Bool.{false}
 use mathlib.Core.List.{[], _∷_}
 use native.Mathlib.Omega.{arith}

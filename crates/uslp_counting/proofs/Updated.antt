@@ -44,7 +44,7 @@ use Rattle.uslp_counting.specs.Updated.Shares.{ends, here, there}
 use Rattle.uslp_counting.specs.Restarts.Leads.{ends as leads-end, restart}
 use Rattle.uslp_counting.proofs.Stands.{Stands, stands-opened}
 use Rattle.uslp_counting.proofs.Agrees.{Agrees, all-agree}
-use Rattle.uslp_counting.proofs.Restarts.{origin, origin-entries, restart-keeps, event-keeps, leads-keep}
+use Rattle.uslp_counting.proofs.Restarts.{origin, origin-entries, event-keeps, leads-keep}
 use Rattle.uslp_counting.proofs.Singly.{steps-of}
 use Rattle.uslp_counting.proofs.Arrival.{reads}
 use Rattle.uslp_counting.proofs.Step.{Counting, quiet, handingsAfter}
@@ -149,7 +149,9 @@ updated K plain width fecf S lo hi r₀ r long begins es hs m led none q back ds
     let run : Shares NoExpedited frameHearing S r (es ++ (ds ++ [])) (hs ++ (gs ++ [])) z = there led none (here (restart back on) ends) in
     let same : places (es ++ (ds ++ [])) ≡ places es ++ places ds =
     places-append es (ds ++ []) ∙ ap (λ (l : List (Event channelOf K width)). places es ++ places l) (append-nil ds) in
-    let d = shared K plain width fecf S lo hi r₀ r z long begins (es ++ (ds ++ [])) (hs ++ (gs ++ [])) run (subst (Window (256 ^ width / 2) []) (sym same) near) in (
+    let d =
+    shared K plain width fecf S lo hi r₀ r z long begins (es ++ (ds ++ [])) (hs ++ (gs ++ [])) run
+    (subst (Window (256 ^ width / 2) []) (sym same) near) in (
       ap (λ (l : List Handing). hs ++ l) (sym (append-nil gs)) ∙ d .0 ∙ ap (λ (ps : List ℕ). handings S (leaders [] ps)) same,
       d .1 ∙ ap (λ (ps : List ℕ). lost (leaders [] ps)) same,
     )

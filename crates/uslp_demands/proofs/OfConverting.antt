@@ -12,7 +12,6 @@ use Rattle.uslp_kinds.specs.Answers.{paperLength}
 use Rattle.uslp_kinds.proofs.Back.{back, one-to-one, length-back, leaving-one}
 use Rattle.uslp_kinds.proofs.Outcomes.{not-done}
 use Rattle.uslp_kinds.specs.declared.LengthAnswer.the-variants as length-answer
-use Rattle.uslp_record.specs.Record.{Kept}
 use Rattle.uslp_record.specs.declared.SlotState.{SlotState}
 use Rattle.uslp_record.specs.declared.ChannelRecord.{ChannelRecord}
 use Rattle.uslp_form.specs.declared.Form.{Form}
@@ -64,7 +63,7 @@ module _ (c : Program fn-convert) (keeps : Keeps fn-convert c) where
       → (d : List ℕ) → length s ≤ length d → converterOf c g f (take n t) d ≡ leaving (done (length s)) (s ++ drop (length s) d)
   there-and-back f g s b {n} {t} e d room = claims.there-and-back (done-so f g s b e) d room (converts g f (take n t) d)
 
-  -- new to old is done exactly if the octets are a good form 2 in which no channel is expedited, and there is room
+  -- new to old is done exactly if the octets are a good form 2, every flag is 0, and there is room
   pub record Downs (s b : List ℕ) : Type 0 where
     pub count : ℕ
     pub left : List ℕ

@@ -78,7 +78,8 @@ module _ (f : Form) (r : ChannelRecord) (b : List ℕ) where
       let d = saves e in omega (arith, d .count, ap length (d .left), length-append (formOf f r) (drop (length (formOf f r)) b))
 
 -- the same of the answer of a call
-pub saved-within : (f : Form) (r : ChannelRecord) (b t : List ℕ) (a : LengthAnswer) (n : ℕ) → a ≡ Done n → leaving (paperLength a) t ≡ saving f r b → n ≤ length t
+pub saved-within : (f : Form) (r : ChannelRecord) (b t : List ℕ) (a : LengthAnswer) (n : ℕ) → a ≡ Done n
+    → leaving (paperLength a) t ≡ saving f r b → n ≤ length t
 saved-within f r b t a n e h = saving-fits f r b (ap (λ (x : LengthAnswer). leaving (paperLength x) t) (sym e) ∙ h)
 
 -- refused, it leaves what it found

@@ -1,12 +1,13 @@
 -- Converting: done, it leaves the form of the same entries; both ways round; and what is restored from either is the same.
 use mathlib.Core.Path.{_≡_, refl, sym, _∙_, ap, subst}
 use mathlib.Core.Logic.{_↔_}
-use mathlib.Core.Bool.{Bool, true, false}
+use mathlib.Core.Bool.{true}
 use mathlib.Core.List.{List, [], _∷_, _++_}
-use Prim.Native.Nat.{ℕ, _+_, _*_, _-_, _<_, _≤_}
+use Prim.Native.Nat.{ℕ, _<_, _≤_}
 use native.Mathlib.Omega.{arith}
 use native.Mathlib.Decide.{decLt}
-use lib.ListN.{length, take, drop, replicate, length-append}
+use lib.Dec.{eqb}
+use lib.ListN.{length, take, drop, length-append}
 use lib.Seq.{take-append-seam}
 use Rattle.uslp_kinds.specs.Kinds.{bypassNumber}
 use Rattle.uslp_kinds.specs.Outcome.{Outcome, done, refused, Written, leaving}
@@ -16,7 +17,6 @@ use Rattle.uslp_kinds.specs.declared.LengthAnswer.the-variants.{Done as Filled}
 use Rattle.uslp_kinds.proofs.Back.{leaving-one}
 use Rattle.uslp_kinds.proofs.Outcomes.{not-done}
 use Rattle.uslp_record.proofs.Back.{keeping-one}
-use Rattle.uslp_record.specs.Slots.{slotOf}
 use Rattle.uslp_record.specs.Record.{Kept, keeping}
 use Rattle.uslp_record.specs.declared.SlotState.{SlotState}
 use Rattle.uslp_record.specs.declared.SlotState.the-variants.{Closed, Opened, Heard}
@@ -24,73 +24,21 @@ use Rattle.uslp_record.specs.declared.ChannelRecord.{ChannelRecord}
 use Rattle.uslp_form.specs.Entries.{Each}
 use Rattle.uslp_form.specs.declared.Form.{Form}
 use Rattle.uslp_form.specs.declared.Form.the-variants.{One, Two}
-use Rattle.uslp_form.specs.Form.{rank, anyLacks, EntryWhole, Whole, form, formOf, Ascending, GoodForm, restored}
+use Rattle.uslp_form.specs.Form.{anyLacks, EntryWhole, Whole, form, GoodForm, restored}
 use Rattle.uslp_form.specs.Saved.{saving, Restoring, Converting}
 use Rattle.uslp_form.specs.Saved.Converting.{good, bad}
-use Rattle.uslp_form.proofs.Each.{each-left, each-right, each-both}
-use Rattle.uslp_form.proofs.Flags.{not-expedited, none-lacks, lacks-none, Expedited, lacks-exactly, whole-exactly, whole-two}
-use Rattle.uslp_form.proofs.Restored.{slots-each, each-restored}
+use Rattle.uslp_form.proofs.Each.{each-map}
+use Rattle.uslp_form.proofs.Flags.{not-expedited, Expedited, lacks-exactly, whole-two}
+use Rattle.uslp_form.proofs.Across.{good-across, saved-across, whole-restored, entries-whole}
 use Rattle.uslp_form.proofs.Rows.{good-one, restores-done}
-use Rattle.uslp_form.proofs.Trips.{saved-again}
 use Rattle.uslp_form.proofs.Claims.{saving-lacks, saving-done, saving-short, saving-whole, saves, saving-kept, restoring-good, restoring-bad, refused-bad}
 
 -- a refusal is the same of whatever result
-refused-alike : {A B : Type 0} {n m : ℕ} {vs ws : List ℕ} → _≡_ {A = Outcome A} (refused n vs) (refused m ws) → _≡_ {A = Outcome B} (refused n vs) (refused m ws)
+refused-alike : {A B : Type 0} {n m : ℕ} {vs ws : List ℕ} → _≡_ {A = Outcome A} (refused n vs) (refused m ws)
+    → _≡_ {A = Outcome B} (refused n vs) (refused m ws)
 refused-alike e = cc
 
--- where neither form lacks the flag of an entry, both have it in one place of the order
-rank-scaled : (x : SlotState) → EntryWhole One x → rank Two x ≡ rank One x * 256
-rank-scaled Closed e = omega arith
-rank-scaled (Opened k w) e = omega (arith, ap bypassNumber (not-expedited (k .«sequence_control_flag») e))
-rank-scaled (Heard k w t) e = omega (arith, ap bypassNumber (not-expedited (k .«sequence_control_flag») e))
-
 module _ (f g : Form) where
-  abbrev Both : SlotState → Type 0
-  Both x = EntryWhole f x × EntryWhole g x
-
-rank-across : (f g : Form) (x y : SlotState) → Both f g x → Both f g y → rank f x < rank f y → rank g x < rank g y
-rank-across One One x y a b h = h
-rank-across One Two x y a b h = omega (arith, rank-scaled x (a .0), rank-scaled y (b .0))
-rank-across Two One x y a b h = omega (arith, rank-scaled x (a .1), rank-scaled y (b .1))
-rank-across Two Two x y a b h = h
-
-module _ (f g : Form) where
-  ascends-across : (l : List SlotState) → Each (Both f g) l → Ascending f l → Ascending g l
-  ascends-across [] a o = tt
-  ascends-across (x ∷ l) a o = (
-    each-both (Both f g) (λ (y : SlotState). rank f x < rank f y) (λ (y : SlotState). rank g x < rank g y)
-        (λ y b h. rank-across f g x y (a .0) b h) l (a .1) (o .0),
-    ascends-across l (a .1) (o .1),
-  )
-
-  -- the entries of a good form are a good form of the other, where that lacks no flag of them
-  module _ {s : List ℕ} (us hs : List SlotState) (k : GoodForm f s us hs) (whole : Each (EntryWhole g) (us ++ hs)) where
-    both : Each (Both f g) (us ++ hs)
-    both = each-both (EntryWhole f) (EntryWhole g) (Both f g) (λ x a b. (a, b)) (us ++ hs) (k .flags) whole
-
-    pub good-across : GoodForm g (form g us hs) us hs
-    good-across = record {
-      octets = refl;
-      unheard = k .unheard;
-      heard = k .heard;
-      flags = whole;
-      sound = k .sound;
-      first = ascends-across us (each-left (Both f g) us hs both) (k .first);
-      second = ascends-across hs (each-right (Both f g) us hs both) (k .second);
-      once = k .once;
-      few = k .few;
-    }
-
-    -- and saving the record of them writes that form
-    pub saved-across : formOf g (restored (us ++ hs)) ≡ form g us hs
-    saved-across = saved-again g (form g us hs) us hs good-across
-
-    pub whole-restored : Whole g (restored (us ++ hs))
-    whole-restored = lacks-none g (restored (us ++ hs) .slots) (each-restored (us ++ hs) (k .few) (EntryWhole g) refl whole)
-
-  entries-whole : (l : List SlotState) → Whole g (restored l) → Each (EntryWhole g) l
-  entries-whole l w = slots-each (EntryWhole g) l (replicate (8 - length l) (slotOf Closed)) (none-lacks g (restored l .slots) w)
-
   module _ (s b : List ℕ) where
     -- A converting that is done: octets s are a good form of some entries, and what it wrote is the other form of the same. The octets behind
     -- it stay.
@@ -108,13 +56,13 @@ module _ (f g : Form) where
         go : {o : Written ℕ} → Converting f g s b o → o ≡ leaving (done n) t → Converts n t
         go (good us hs k) e =
             let d = saves g (restored (us ++ hs)) b (sym e) in
-            let w = entries-whole (us ++ hs) (d .whole) in
-            let a = saved-across us hs k w in
+            let w = entries-whole f g (us ++ hs) (d .whole) in
+            let a = saved-across f g us hs k w in
             record {
               unheard = us;
               heard = hs;
               from = k;
-              to = good-across us hs k w;
+              to = good-across f g us hs k w;
               count = d .count ∙ ap length a;
               left = d .left ∙ ap (λ (l : List ℕ). l ++ drop (length l) b) a;
             }
@@ -168,7 +116,7 @@ module _ (f g : Form) where
         → let w = form g (c .unheard) (c .heard) in Converting f g s b (leaving (done (length w)) (w ++ drop (length w) b))
     converting-done c =
         let r = restored (c .unheard ++ c .heard) in
-        let a = saved-across (c .unheard) (c .heard) (c .from) (entries-whole (c .unheard ++ c .heard) (c .whole)) in
+        let a = saved-across f g (c .unheard) (c .heard) (c .from) (entries-whole f g (c .unheard ++ c .heard) (c .whole)) in
         subst (Converting f g s b)
         (saving-done g r b (c .whole) (omega (arith, ap length a, c .room)) ∙ ap (λ (l : List ℕ). leaving (done (length l)) (l ++ drop (length l) b)) a)
         (good (c .unheard) (c .heard) (c .from))
@@ -181,8 +129,8 @@ module _ (f g : Form) where
             let c = converts (d .is) in
             let us = c .unheard in
             let hs = c .heard in
-            let w = whole-restored us hs (c .from) (c .to .flags) in
-            let a = saved-across us hs (c .from) (c .to .flags) in
+            let w = whole-restored f g us hs (c .from) (c .to .flags) in
+            let a = saved-across f g us hs (c .from) (c .to .flags) in
             let e = converting-good us hs (c .from) (d .is) in
             record {
               unheard = us;
@@ -203,9 +151,9 @@ module _ (f g : Form) where
       pub converting-short : Each (EntryWhole g) (us ++ hs) → length b < length (form g us hs)
           → o ≡ leaving (refused 2 (length b ∷ length (form g us hs) ∷ [])) b
       converting-short w e =
-          let a = saved-across us hs k w in
+          let a = saved-across f g us hs k w in
           converting-good us hs k h
-          ∙ saving-short g (restored (us ++ hs)) b (whole-restored us hs k w) (omega (arith, ap length a))
+          ∙ saving-short g (restored (us ++ hs)) b (whole-restored f g us hs k w) (omega (arith, ap length a))
           ∙ ap (λ (l : List ℕ). leaving (refused 2 (length b ∷ length l ∷ [])) b) a
 
     -- it is restoring, whatever record is found, and then saving
@@ -251,7 +199,8 @@ module _ {f g : Form} {s b : List ℕ} {n : ℕ} {t : List ℕ} (h : Converting 
         whole = whole-restored g f us hs good-wrote (told .from .flags);
         room = omega (arith, ap length is);
       } in
-      converting-one g f (take n t) c k (converting-done g f (take n t) c back) ∙ ap (λ (l : List ℕ). leaving (done (length l)) (l ++ drop (length l) c)) (sym is)
+      converting-one g f (take n t) c k (converting-done g f (take n t) c back)
+      ∙ ap (λ (l : List ℕ). leaving (done (length l)) (l ++ drop (length l) c)) (sym is)
 
   -- to its own form: the octets that it came from
   pub to-itself : f ≡ g → take n t ≡ s
@@ -262,23 +211,40 @@ module _ {f g : Form} {s b : List ℕ} {n : ℕ} {t : List ℕ} (h : Converting 
   restores-alike {r} {o} {p} a b =
       restoring-good f r s (told .unheard) (told .heard) o (told .from) a ∙ sym (restoring-good g r (take n t) (told .unheard) (told .heard) p good-wrote b)
 
--- new to old is done exactly if the octets are a good form 2 in which no channel is expedited, and there is room
+-- the flag of an entry is 0: form 1 does not lack it exactly then
+abbrev pub FlagZero : SlotState → Type 0
+FlagZero Closed = Unit {0}
+FlagZero (Opened k width) = bypassNumber (k .«sequence_control_flag») ≡ 0
+FlagZero (Heard k width totals) = bypassNumber (k .«sequence_control_flag») ≡ 0
+
+whole-zero : (x : SlotState) → EntryWhole One x → FlagZero x
+whole-zero Closed e = tt
+whole-zero (Opened k w) e = ap bypassNumber (not-expedited (k .«sequence_control_flag») e)
+whole-zero (Heard k w t) e = ap bypassNumber (not-expedited (k .«sequence_control_flag») e)
+
+zero-whole : (x : SlotState) → FlagZero x → EntryWhole One x
+zero-whole Closed e = refl
+zero-whole (Opened k w) e = ap (λ (n : ℕ). eqb n 1) e
+zero-whole (Heard k w t) e = ap (λ (n : ℕ). eqb n 1) e
+
+-- new to old is done exactly if the octets are a good form 2, every flag is 0, and there is room
 pub record Downable (s b : List ℕ) : Type 0 where
   pub unheard : List SlotState
   pub heard : List SlotState
   pub from : GoodForm Two s unheard heard
-  pub plain : Expedited (restored (unheard ++ heard)) → ⊥
+  pub flags : Each FlagZero (unheard ++ heard)
   pub room : length (form One unheard heard) ≤ length b
 
 pub down-exactly : (s b : List ℕ) → Done Two One s b ↔ Downable s b
 down-exactly s b = (
   λ d.
       let c = done-exactly Two One s b .0 d in
+      let l = c .unheard ++ c .heard in
       record {
         unheard = c .unheard;
         heard = c .heard;
         from = c .from;
-        plain = whole-exactly (restored (c .unheard ++ c .heard)) .0 (c .whole);
+        flags = each-map (EntryWhole One) FlagZero whole-zero l (entries-whole Two One l (c .whole));
         room = c .room;
       },
   λ c.
@@ -286,7 +252,8 @@ down-exactly s b = (
         unheard = c .unheard;
         heard = c .heard;
         from = c .from;
-        whole = whole-exactly (restored (c .unheard ++ c .heard)) .1 (c .plain);
+        whole = whole-restored Two One (c .unheard) (c .heard) (c .from)
+            (each-map FlagZero (EntryWhole One) zero-whole (c .unheard ++ c .heard) (c .flags));
         room = c .room;
       }),
 )

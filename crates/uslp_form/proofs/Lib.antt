@@ -6,5 +6,6 @@ pub mod Trips
 pub mod Asked
 pub mod Rows
 pub mod Claims
+pub mod Across
 pub mod Converted
 pub mod Wrong

@@ -125,4 +125,5 @@ module _ (s : List ℕ) (oct : AreOctets s) (at : ℕ) (f : Form) where
     pub heard-at : (t : Totals) (p : ℕ) → p ≡ at + 4 + flagLong f → t ≡ totalsAt p s → Heard k (getD s w 0) t ≡ heardIn f (drop at s)
     heard-at t p e d =
         let z : p ≡ at + (4 + flagLong f) = omega arith in
-        (λ i. Heard (found i) (said-at w spot i) (d i)) ∙ ap (λ (n : ℕ). Heard (channelAt f at s) (word (at + (3 + flagLong f)) 1 s) (totalsAt n s)) z ∙ sym heard-in
+        (λ i. Heard (found i) (said-at w spot i) (d i))
+        ∙ ap (λ (n : ℕ). Heard (channelAt f at s) (word (at + (3 + flagLong f)) 1 s) (totalsAt n s)) z ∙ sym heard-in

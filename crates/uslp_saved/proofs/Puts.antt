@@ -59,7 +59,8 @@ channel-before f k w m fs whole h a b =
     let bits : bitsIn rest ≡ 8 * (1 + m) = omega arith in
     let long = flag-bits k (1 + m) rest bits f in
     let fits = flag-fits k (1 + m) rest bits f (b, h) in
-    pack-cons "spacecraft" 2 (k .«spacecraft_id») (1 + (flagLong f + (1 + m))) (("channel", 8, k .«vc_id») ∷ (flagColumn f k ++ rest)) (omega (arith, long)) (a, fits)
+    pack-cons "spacecraft" 2 (k .«spacecraft_id») (1 + (flagLong f + (1 + m))) (("channel", 8, k .«vc_id») ∷ (flagColumn f k ++ rest))
+    (omega (arith, long)) (a, fits)
     ∙ ap (λ (l : List ℕ). octets 2 (k .«spacecraft_id») ++ l)
     (pack-cons "channel" 1 (k .«vc_id») (flagLong f + (1 + m)) (flagColumn f k ++ rest) long fits
     ∙ ap (λ (l : List ℕ). octets 1 (k .«vc_id») ++ l)

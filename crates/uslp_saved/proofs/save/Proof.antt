@@ -21,7 +21,9 @@ put-all : (p : tie.After-put-section2) → let o = p .put-section2 .result in
 put-all p =
     let l = p .before .before .before in
     let r = l .before .before .before .args .channels in
-    let b = both-sections (l .before .before .before .args .form) _ _ _ r (p .before .before .empty .ensures) (p .before .put-section .ensures) (p .put-section2 .ensures) in
+    let b =
+    both-sections (l .before .before .before .args .form) _ _ _ r (p .before .before .empty .ensures) (p .before .put-section .ensures)
+    (p .put-section2 .ensures) in
     (sym (l .before .lacks-flag .ensures) ∙ l .if1 .left, b .0, b .1)
 
 returns : tie.Need-returns

@@ -16,7 +16,8 @@ returns-2 c =
     let u = c .before in
     let o = u .before .before in
     let a = o .before .before .before .args in
-    admitted-below (a .form) (a .channels) (a .unheard) (a .i) (o .sound .ensures) (not-false _ (u .before .if1 .left)) (u .above .ensures) (not-true _ (c .if2 .taken))
+    admitted-below (a .form) (a .channels) (a .unheard) (a .i) (o .sound .ensures) (not-false _ (u .before .if1 .left))
+    (u .above .ensures) (not-true _ (c .if2 .taken))
 
 returns-3 : tie.Need-returns-3
 returns-3 c =

@@ -28,7 +28,8 @@ loop-again : tie.Need-loop-again Inv-loop μ-loop
 loop-again c =
     let l = c .before .before .before in
     let a = l .before .args in
-    (omega arith, admitted-more (a .form) (a .channels) (a .unheard) (l .loop .i) (l .loop .inv .1) (c .before .admitted .ensures .0 (not-false _ (c .if1 .left))))
+    let so = c .before .admitted .ensures .0 (not-false _ (c .if1 .left)) in
+    (omega arith, admitted-more (a .form) (a .channels) (a .unheard) (l .loop .i) (l .loop .inv .1) so)
 
 returns-2 : tie.Need-returns-2 Inv-loop μ-loop
 returns-2 c =

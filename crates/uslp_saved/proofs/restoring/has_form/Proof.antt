@@ -11,7 +11,8 @@ use Rattle.uslp_saved.proofs.restoring.has_form.Statement.{statement}
 use Rattle.uslp_saved.proofs.restoring.has_form.Tie as tie
 
 -- the second count is an octet, and stands where the form has it
-known : (c : tie.After-shared-slice-known3) → getD (c .before .before .before .before .before .before .args .from .now) (1 + c .before .before .unheard-octets .result) 0 < 256
+known : (c : tie.After-shared-slice-known3) → let s = c .before .before .before .before .before .before .args .from .now in
+    getD s (1 + c .before .before .unheard-octets .result) 0 < 256
 known c = omega (arith, c .shared-slice-known3 .given (1 + c .before .before .unheard-octets .result))
 
 second-is : (c : tie.After-shared-slice-known3) → let a = c .before .before .before .before .before .before .args in

@@ -43,7 +43,8 @@ returns : tie.Need-returns Inv-loop μ-loop
 returns c =
     let l = c .before in
     let s = l .before .before .before in
-    filled-all (entriesOfOctets (s .args .form) (s .args .from .now)) (l .loop .next) (l .loop .i) (omega (arith, s .pre .2, entries-count (s .args .form) (s .args .from .now)))
+    filled-all (entriesOfOctets (s .args .form) (s .args .from .now)) (l .loop .next) (l .loop .i)
+    (omega (arith, s .pre .2, entries-count (s .args .form) (s .args .from .now)))
     (l .loop .inv .1)
 
 pub read-all-spec : {M : Type 1} → statement M

@@ -14,7 +14,8 @@ returns c =
     let known = channel .before in
     let a = known .before .args in
     heard-at (a .from .now) (λ i. omega (arith, known .shared-slice-known .given i)) (a .at) (a .form) _ (channel .channel-at .ensures) _
-    (ap (λ (n : ℕ). a .at + 3 + n) (flag .flag-len .ensures .0)) _ _ (ap (λ (n : ℕ). a .at + 4 + n) (flag .flag-len .ensures .0)) (c .before .totals-at .ensures)
+    (ap (λ (n : ℕ). a .at + 3 + n) (flag .flag-len .ensures .0)) _ _ (ap (λ (n : ℕ). a .at + 4 + n) (flag .flag-len .ensures .0))
+    (c .before .totals-at .ensures)
 
 pub read-heard-spec : {M : Type 1} → statement M
 read-heard-spec =
