@@ -34,12 +34,8 @@ pub fn save(channels: ChannelRecord, form: Form, to: &mut [u8]) -> LengthAnswer
     if lacks_flag(channels, form) {
         return LengthAnswer::Refused(Refusal::LacksFlag);
     }
-    let out = put_section(
-        put_section(empty(), channels, form, false),
-        channels,
-        form,
-        true,
-    );
+    let unheard = put_section(empty(), channels, form, false);
+    let out = put_section(unheard, channels, form, true);
     let filled = out.octets;
     let found = to.len();
     let expected = out.len;
