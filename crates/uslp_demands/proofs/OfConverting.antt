@@ -16,11 +16,11 @@ use Rattle.uslp_record.specs.declared.SlotState.{SlotState}
 use Rattle.uslp_record.specs.declared.ChannelRecord.{ChannelRecord}
 use Rattle.uslp_form.specs.declared.Form.{Form}
 use Rattle.uslp_form.specs.declared.Form.the-variants.{One, Two}
-use Rattle.uslp_form.specs.Form.{form, Ascending, GoodForm, restored}
+use Rattle.uslp_form.specs.Form.{form, Ascending, GoodForm}
 use Rattle.uslp_form.specs.Said.{flagLong}
 use Rattle.uslp_form.specs.Saved.{Converting}
-use Rattle.uslp_form.proofs.Flags.{Expedited}
 use Rattle.uslp_form.proofs.Converted as claims
+use Rattle.uslp_form.proofs.Exactly as exactly
 use Rattle.uslp_saved.specs.Reading.{firstCount, secondCount, placeOf}
 use Rattle.uslp_saved.proofs.Entries.{flags-read}
 use Rattle.uslp_converting.proofs as converting
@@ -69,11 +69,11 @@ module _ (c : Program fn-convert) (keeps : Keeps fn-convert c) where
     pub left : List ℕ
     pub is : converterOf c Two One s b ≡ leaving (done count) left
 
-  pub down-exactly : (s b : List ℕ) → Downs s b ↔ claims.Downable s b
+  pub down-exactly : (s b : List ℕ) → Downs s b ↔ exactly.Downable s b
   down-exactly s b = (
-    λ d. claims.down-exactly s b .0 (record { count = d .count; left = d .left; is = done-so Two One s b (d .is) }),
+    λ d. exactly.down-exactly s b .0 (record { count = d .count; left = d .left; is = done-so Two One s b (d .is) }),
     λ k.
-        let d = claims.down-exactly s b .1 k in
+        let d = exactly.down-exactly s b .1 k in
         record { count = d .count; left = d .left; is = claims.converting-one Two One s b (converts Two One s b) (d .is) },
   )
 
@@ -83,10 +83,21 @@ module _ (c : Program fn-convert) (keeps : Keeps fn-convert c) where
   restores-alike p kept f g s b {n} {t} e r =
       sym (claims.restores-alike (done-so f g s b e) (restores p kept f r s) (restores p kept g r (take n t)))
 
+  -- 18 only where the octets are no good form, and 19 only where form 1 is to be written and a channel in them is expedited
+  pub form-only : (f g : Form) (s b : List ℕ) {vs t : List ℕ} → converterOf c f g s b ≡ leaving (refused 18 vs) t
+      → (us hs : List SlotState) → GoodForm f s us hs → ⊥
+  form-only f g s b e = exactly.form-only f g s b (subst (Converting f g s b) e (converts f g s b))
+
+  pub lacks-only : (f : Form) (s b : List ℕ) {vs t : List ℕ} → converterOf c f One s b ≡ leaving (refused 19 vs) t → exactly.Lacking f s
+  lacks-only f s b e = exactly.lacks-only f s b (subst (Converting f One s b) e (converts f One s b))
+
+  pub lacks-never : (f : Form) (s b : List ℕ) {vs t : List ℕ} → converterOf c f Two s b ≡ leaving (refused 19 vs) t → ⊥
+  lacks-never f s b e = exactly.up-lacks-none f s b (subst (Converting f Two s b) e (converts f Two s b))
+
   -- converting that drops an expedited channel: it answers 19, whatever room there is, and writes nothing
-  module _ (s b : List ℕ) (us hs : List SlotState) (k : GoodForm Two s us hs) (x : Expedited (restored (us ++ hs))) where
+  module _ (s b : List ℕ) (k : exactly.Lacking Two s) where
     pub lacks-answer : converterOf c Two One s b ≡ leaving (refused 19 []) b
-    lacks-answer = claims.down-lacks s b us hs k x (converts Two One s b)
+    lacks-answer = exactly.down-lacks s b k (converts Two One s b)
 
     pub no-channel-dropped : {n : ℕ} {t : List ℕ} → converterOf c Two One s b ≡ leaving (done n) t → ⊥
     no-channel-dropped e = not-done (sym (leaving-one (sym e ∙ lacks-answer) .0))

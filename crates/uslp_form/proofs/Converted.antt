@@ -6,10 +6,8 @@ use mathlib.Core.List.{List, [], _∷_, _++_}
 use Prim.Native.Nat.{ℕ, _<_, _≤_}
 use native.Mathlib.Omega.{arith}
 use native.Mathlib.Decide.{decLt}
-use lib.Dec.{eqb}
 use lib.ListN.{length, take, drop, length-append}
 use lib.Seq.{take-append-seam}
-use Rattle.uslp_kinds.specs.Kinds.{bypassNumber}
 use Rattle.uslp_kinds.specs.Outcome.{Outcome, done, refused, Written, leaving}
 use Rattle.uslp_kinds.specs.Answers.{paperLength}
 use Rattle.uslp_kinds.specs.declared.LengthAnswer.{LengthAnswer}
@@ -19,19 +17,15 @@ use Rattle.uslp_kinds.proofs.Outcomes.{not-done}
 use Rattle.uslp_record.proofs.Back.{keeping-one}
 use Rattle.uslp_record.specs.Record.{Kept, keeping}
 use Rattle.uslp_record.specs.declared.SlotState.{SlotState}
-use Rattle.uslp_record.specs.declared.SlotState.the-variants.{Closed, Opened, Heard}
 use Rattle.uslp_record.specs.declared.ChannelRecord.{ChannelRecord}
 use Rattle.uslp_form.specs.Entries.{Each}
 use Rattle.uslp_form.specs.declared.Form.{Form}
-use Rattle.uslp_form.specs.declared.Form.the-variants.{One, Two}
 use Rattle.uslp_form.specs.Form.{anyLacks, EntryWhole, Whole, form, GoodForm, restored}
 use Rattle.uslp_form.specs.Saved.{saving, Restoring, Converting}
 use Rattle.uslp_form.specs.Saved.Converting.{good, bad}
-use Rattle.uslp_form.proofs.Each.{each-map}
-use Rattle.uslp_form.proofs.Flags.{not-expedited, Expedited, lacks-exactly, whole-two}
 use Rattle.uslp_form.proofs.Across.{good-across, saved-across, whole-restored, entries-whole}
 use Rattle.uslp_form.proofs.Rows.{good-one, restores-done}
-use Rattle.uslp_form.proofs.Claims.{saving-lacks, saving-done, saving-short, saving-whole, saves, saving-kept, restoring-good, restoring-bad, refused-bad}
+use Rattle.uslp_form.proofs.Claims.{saving-lacks, saving-done, saving-short, saves, saving-kept, restoring-good, restoring-bad, refused-bad}
 
 -- a refusal is the same of whatever result
 refused-alike : {A B : Type 0} {n m : ℕ} {vs ws : List ℕ} → _≡_ {A = Outcome A} (refused n vs) (refused m ws)
@@ -210,63 +204,3 @@ module _ {f g : Form} {s b : List ℕ} {n : ℕ} {t : List ℕ} (h : Converting 
   pub restores-alike : {r : ChannelRecord} {o p : Kept (Unit {0})} → Restoring f r s o → Restoring g r (take n t) p → o ≡ p
   restores-alike {r} {o} {p} a b =
       restoring-good f r s (told .unheard) (told .heard) o (told .from) a ∙ sym (restoring-good g r (take n t) (told .unheard) (told .heard) p good-wrote b)
-
--- the flag of an entry is 0: form 1 does not lack it exactly then
-abbrev pub FlagZero : SlotState → Type 0
-FlagZero Closed = Unit {0}
-FlagZero (Opened k width) = bypassNumber (k .«sequence_control_flag») ≡ 0
-FlagZero (Heard k width totals) = bypassNumber (k .«sequence_control_flag») ≡ 0
-
-whole-zero : (x : SlotState) → EntryWhole One x → FlagZero x
-whole-zero Closed e = tt
-whole-zero (Opened k w) e = ap bypassNumber (not-expedited (k .«sequence_control_flag») e)
-whole-zero (Heard k w t) e = ap bypassNumber (not-expedited (k .«sequence_control_flag») e)
-
-zero-whole : (x : SlotState) → FlagZero x → EntryWhole One x
-zero-whole Closed e = refl
-zero-whole (Opened k w) e = ap (λ (n : ℕ). eqb n 1) e
-zero-whole (Heard k w t) e = ap (λ (n : ℕ). eqb n 1) e
-
--- new to old is done exactly if the octets are a good form 2, every flag is 0, and there is room
-pub record Downable (s b : List ℕ) : Type 0 where
-  pub unheard : List SlotState
-  pub heard : List SlotState
-  pub from : GoodForm Two s unheard heard
-  pub flags : Each FlagZero (unheard ++ heard)
-  pub room : length (form One unheard heard) ≤ length b
-
-pub down-exactly : (s b : List ℕ) → Done Two One s b ↔ Downable s b
-down-exactly s b = (
-  λ d.
-      let c = done-exactly Two One s b .0 d in
-      let l = c .unheard ++ c .heard in
-      record {
-        unheard = c .unheard;
-        heard = c .heard;
-        from = c .from;
-        flags = each-map (EntryWhole One) FlagZero whole-zero l (entries-whole Two One l (c .whole));
-        room = c .room;
-      },
-  λ c.
-      done-exactly Two One s b .1 (record {
-        unheard = c .unheard;
-        heard = c .heard;
-        from = c .from;
-        whole = whole-restored Two One (c .unheard) (c .heard) (c .from)
-            (each-map FlagZero (EntryWhole One) zero-whole (c .unheard ++ c .heard) (c .flags));
-        room = c .room;
-      }),
-)
-
--- with an expedited channel it is 19, whatever room there is
-pub down-lacks : (s b : List ℕ) (us hs : List SlotState) → GoodForm Two s us hs → Expedited (restored (us ++ hs)) → {o : Written ℕ}
-    → Converting Two One s b o → o ≡ leaving (refused 19 []) b
-down-lacks s b us hs k x h = converting-lacks Two One s b us hs k h (lacks-exactly (restored (us ++ hs)) .1 x)
-
--- old to new is never 19: form 2 lacks no flag
-pub up-lacks-none : (s b : List ℕ) {vs t : List ℕ} → Converting One Two s b (leaving (refused 19 vs) t) → ⊥
-up-lacks-none s b {vs} {t} h = go h refl
-  where
-    go : {o : Written ℕ} → Converting One Two s b o → o ≡ leaving (refused 19 vs) t → ⊥
-    go (good us hs k) e = saving-whole Two (restored (us ++ hs)) b (whole-two (restored (us ++ hs))) e
-    go (bad m) e = let d = leaving-one e .0 in let z : _≡_ {A = ℕ} 18 19 = cc in omega arith

@@ -8,4 +8,5 @@ pub mod Rows
 pub mod Claims
 pub mod Across
 pub mod Converted
+pub mod Exactly
 pub mod Wrong
