@@ -19,5 +19,6 @@ pub mod Instance
 pub mod Restarted
 pub mod Mixed
 pub mod Shared
+pub mod Urgent
 pub mod Wrong
 pub mod Blocks
