@@ -6,8 +6,6 @@ use crate::USLP_VERSION_NUMBER;
 use crate::fixed::VERSION;
 use crate::fixed::header_of;
 use uslp_kinds::Refusal;
-use uslp_octets::be_u16;
-use uslp_octets::be_u32;
 use uslp_octets::number_in;
 ghost use mathlib.Core.Path.{_≡_};
 ghost use Prim.Native.Nat.{_<_};
@@ -45,16 +43,10 @@ impl PrimaryHeader {
     }
 }
 
-// The count, by the Rust's arms: one, two and four octets, and a loop for the rest.
+// Then 0 to 7 octets of count, big-endian.
 fn read_count(octets: &[u8]) -> u64
     requires { ⌜ length (now octets) < 8 ⌝ }
     ensures { λ r. ⌜ r ≡ word 0 (length (now (octets .entry))) (now (octets .entry)) ⌝ }
 {
-    let width = octets.len();
-    match width {
-        1 => octets[0] as u64,
-        2 => be_u16(octets[0], octets[1]) as u64,
-        4 => be_u32(octets[0], octets[1], octets[2], octets[3]) as u64,
-        _ => number_in(octets),
-    }
+    number_in(octets)
 }
