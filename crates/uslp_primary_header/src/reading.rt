@@ -43,7 +43,7 @@ impl PrimaryHeader {
     }
 }
 
-// Then 0 to 7 octets of count, big-endian.
+// The count is 0 to 7 octets, big-endian.
 fn read_count(octets: &[u8]) -> u64
     requires { ⌜ length (now octets) < 8 ⌝ }
     ensures { λ r. ⌜ r ≡ word 0 (length (now (octets .entry))) (now (octets .entry)) ⌝ }
