@@ -5,7 +5,7 @@ use uslp_kinds::FhpOrLvo;
 use uslp_kinds::LengthAnswer;
 use uslp_kinds::OperationalControlField;
 use uslp_kinds::Refusal;
-use uslp_octets::number_in;
+use uslp_octets::be_number;
 use uslp_primary_header::PrimaryHeader;
 
 pub mod channels;
@@ -75,7 +75,7 @@ fn say_octets(octets: &[u8]) {
 
 fn say_group(octets: &[u8]) {
     if octets.len() <= GROUP {
-        io::print_hex(STDOUT_FILENO, number_in(octets), 2 * octets.len());
+        io::print_hex(STDOUT_FILENO, be_number(octets), 2 * octets.len());
     }
 }
 

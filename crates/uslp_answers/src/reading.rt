@@ -9,6 +9,7 @@ use crate::say_zero;
 use uslp_checksum::checksum;
 use uslp_data_field_header::DataFieldHeaderAnswer;
 use uslp_data_field_header::TransferFrameDataFieldHeader;
+use uslp_kinds::ManagedParameters;
 use uslp_primary_header::HeaderAnswer;
 use uslp_primary_header::PrimaryHeader;
 use uslp_reader::FrameAnswer;
@@ -38,8 +39,8 @@ pub fn dr(octets: &[u8]) {
     }
 }
 
-pub fn fr(octets: &[u8], has_fecf: bool) {
-    match TransferFrame::from_bytes(octets, has_fecf) {
+pub fn fr(octets: &[u8], managed: ManagedParameters) {
+    match TransferFrame::from_bytes(octets, managed) {
         FrameAnswer::Done(frame) => say_frame(frame, octets),
         FrameAnswer::Refused(refusal) => say_refusal(refusal),
     }

@@ -12,6 +12,7 @@ use uslp_answers::values::WIDTH;
 use uslp_answers::values::octet_of;
 use uslp_form::Form;
 use uslp_kinds::BypassSequenceControlFlag;
+use uslp_kinds::ManagedParameters;
 use uslp_record::Channel;
 use uslp_record::ChannelRecord;
 use uslp_record::Recorded;
@@ -31,10 +32,17 @@ fn recorded(call: Recorded) -> ChannelRecord {
 }
 
 pub(crate) fn hear(values: &Values, octets: &[u8], channels: ChannelRecord) -> ChannelRecord {
-    let hearing = uslp_hearing::hear(channels, octets, values[FECF] == 1);
+    let hearing = uslp_hearing::hear(channels, octets, managed(values));
     let answer = hearing.answer;
     say_heard(answer, octets);
     hearing.next
+}
+
+// What the link agrees on, as far as a command says it.
+pub(crate) fn managed(values: &Values) -> ManagedParameters {
+    ManagedParameters {
+        has_fecf: values[FECF] == 1,
+    }
 }
 
 pub(crate) fn show(values: &Values, channels: ChannelRecord) -> ChannelRecord {

@@ -2,6 +2,7 @@
 use crate::Bench;
 use crate::channels::close;
 use crate::channels::hear;
+use crate::channels::managed;
 use crate::channels::open;
 use crate::channels::restore;
 use crate::channels::save;
@@ -21,7 +22,6 @@ use uslp_answers::reading::fr;
 use uslp_answers::reading::hr;
 use uslp_answers::say_bad;
 use uslp_answers::say_zero;
-use uslp_answers::values::FECF;
 use uslp_answers::values::HEX;
 use uslp_answers::values::Values;
 use uslp_answers::writing::convert;
@@ -162,7 +162,7 @@ fn act_on_frame(command: usize, values: &Values, data: &[u8]) {
         CRC => crc(data),
         HR => hr(data),
         DR => dr(data),
-        FR => fr(data, values[FECF] == 1),
+        FR => fr(data, managed(values)),
         HW => hw(values),
         FW => fw(values, data, false),
         RW => fw(values, data, true),
@@ -188,7 +188,7 @@ fn act_on_channels(
         RESTORE => restore(Form::One, data, channels),
         SAVE2 => save(Form::Two, values, channels),
         RESTORE2 => restore(Form::Two, data, channels),
-        MANY => many(data, values[FECF] == 1, channels),
+        MANY => many(data, managed(values), channels),
         _ => channels,
     }
 }
@@ -201,7 +201,7 @@ fn act_on_intake(
     held: usize,
 ) -> usize {
     match command {
-        FEED => feed(holding, held, data, values[FECF] == 1),
+        FEED => feed(holding, held, data, managed(values)),
         DROP => {
             say_zero();
             0

@@ -1,9 +1,9 @@
 // The places of a command's words, and what fits each.
 use crate::words::Number;
+use crate::words::decimal_in;
 use crate::words::index_of;
 use crate::words::is_hex;
 use crate::words::next_word;
-use crate::words::number_in;
 use crate::words::part;
 use check::same;
 use uslp_answers::say_bad;
@@ -91,7 +91,7 @@ fn limit_of(place: usize) -> u64 {
 
 // A flag, 0 or 1, has one character.
 fn number_up_to(word: &[u8], limit: u64) -> Number {
-    let Number::Is(value) = number_in(word) else {
+    let Number::Is(value) = decimal_in(word) else {
         return Number::Not;
     };
     if value > limit {

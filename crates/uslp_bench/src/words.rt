@@ -109,7 +109,7 @@ fn line_end(text: &[u8], from: usize) -> usize {
     find(text, from, text.len(), b'\n')
 }
 
-pub(crate) fn number_in(word: &[u8]) -> Number {
+pub(crate) fn decimal_in(word: &[u8]) -> Number {
     if word.len() == 0 {
         return Number::Not;
     }

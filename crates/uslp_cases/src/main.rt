@@ -4,10 +4,13 @@ use uslp_kinds::BypassSequenceControlFlag;
 use uslp_kinds::ConstructionRule;
 use uslp_kinds::FhpOrLvo;
 use uslp_kinds::LengthAnswer;
+use uslp_kinds::ManagedParameters;
+use uslp_kinds::NO_FECF;
 use uslp_kinds::OperationalControlField;
 use uslp_kinds::ProtocolControlCommandFlag;
 use uslp_kinds::SourceOrDestField;
 use uslp_kinds::UslpProtocolId;
+use uslp_kinds::WITH_FECF;
 use uslp_primary_header::HeaderAnswer;
 use uslp_primary_header::PrimaryHeader;
 use uslp_reader::FrameAnswer;
@@ -34,7 +37,7 @@ fn main() {
         0x0A,
         0xF0,
     ];
-    read(b"first octet B1", &b1, false);
+    read(b"first octet B1", &b1, NO_FECF);
     let short = [
         0xC1u8,
         0x23,
@@ -48,8 +51,8 @@ fn main() {
         0x0A,
         0xF0,
     ];
-    read(b"length octets 00 08", &short, false);
-    read(b"length octets 00 08, FECF asked for", &short, true);
+    read(b"length octets 00 08", &short, NO_FECF);
+    read(b"length octets 00 08, FECF asked for", &short, WITH_FECF);
     write(b"65528 octets of data", 65528);
     write(b"65529 octets of data", 65529);
     count(b"width 7, count 2^56 - 1", 0x00FF_FFFF_FFFF_FFFF);
@@ -62,8 +65,8 @@ fn say(what: &[u8], answer: u8) {
     io::print_decimal(1, answer as u64);
 }
 
-fn read(what: &[u8], octets: &[u8], has_fecf: bool) {
-    match TransferFrame::from_bytes(octets, has_fecf) {
+fn read(what: &[u8], octets: &[u8], managed: ManagedParameters) {
+    match TransferFrame::from_bytes(octets, managed) {
         FrameAnswer::Done(frame) => {
             say(what, 0);
             io::write_all(1, b", data ");

@@ -6,7 +6,7 @@ ghost use lib.Bits.{bitXor};
 ghost use Rattle.uslp_octets.specs.Octets.{word};
 ghost use Rattle.uslp_checksum.specs.Checksum.{feed, lows, bits};
 ghost use Rattle.uslp_checksum.specs.Words.{fed, standsFor};
-use uslp_octets::number_in;
+use uslp_octets::be_number;
 
 // Four words that stand for a register, the first on top.
 pub struct Wide {
@@ -87,7 +87,7 @@ fn number_at(message: &[u8], at: usize, width: usize) -> u64
     ensures { λ r. ⌜ r ≡ word at width (now (message .entry)) ⌝ }
 {
     let end = at + width;
-    number_in(&message[at..end])
+    be_number(&message[at..end])
 }
 
 // Below eight octets: four at once, then two, then one, as many as there are.

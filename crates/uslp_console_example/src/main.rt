@@ -1,4 +1,5 @@
 // A console: it hears frames of one channel, and knows which never came, over a restart and from octets in blocks too.
+use uslp_end_to_end::hear_many;
 use uslp_form::Form;
 use uslp_hearing::FrameArrival;
 use uslp_hearing::HearAnswer;
@@ -11,8 +12,9 @@ use uslp_kinds::BypassSequenceControlFlag;
 use uslp_kinds::DoneAnswer;
 use uslp_kinds::LengthAnswer;
 use uslp_kinds::MAX_FRAME_LEN;
+use uslp_kinds::NO_FECF;
 use uslp_kinds::Refusal;
-use uslp_many::hear_many;
+use uslp_kinds::written;
 use uslp_record::Channel;
 use uslp_record::ChannelRecord;
 use uslp_record::TotalAnswer;
@@ -22,7 +24,7 @@ use uslp_saved::save;
 
 // Hears one buffer; the record that it answers is the one to go on with, unchanged on a refusal.
 fn take(channels: ChannelRecord, octets: &[u8]) -> ChannelRecord {
-    let heard = hear(channels, octets, false);
+    let heard = hear(channels, octets, NO_FECF);
     let answer = heard.answer;
     // a part of the octets; empty unless the frame is NEW
     let reading = handed_on(answer, octets);
@@ -39,13 +41,13 @@ fn take(channels: ChannelRecord, octets: &[u8]) -> ChannelRecord {
 
 // A replayed pass: frames end to end, heard in one call. What the reader refuses, and all behind it, was not heard.
 fn replay(channels: ChannelRecord, pass: &[u8]) -> ChannelRecord {
-    let heard = hear_many(channels, pass, false);
+    let heard = hear_many(channels, pass, NO_FECF);
     let tally = heard.tally;
-    let stopped = heard.stopped;
+    let place = heard.place;
     say(b"new in the pass: ", tally.new);
     say(b"missing before them: ", tally.missing);
-    if stopped < pass.len() {
-        say(b"octets not heard: ", (pass.len() - stopped) as u64);
+    if place < pass.len() {
+        say(b"octets not heard: ", (pass.len() - place) as u64);
     }
     heard.next
 }
@@ -62,7 +64,7 @@ fn receive(link: Link, holding: &mut [u8], block: &[u8]) -> Link {
     let mut held = link.held;
     let mut place: usize = 0;
     loop {
-        let answer = take_block(holding, held, &block[place..], false);
+        let answer = take_block(holding, held, &block[place..], NO_FECF);
         held = answer.held(held);
         match answer {
             IntakeAnswer::Frame { taken, frame } => {
@@ -97,9 +99,10 @@ fn stopped(channels: ChannelRecord, held: usize, refusal: Refusal) -> Link {
 // The octets outlive the record: written to a file before the console stops, and read from it when it starts.
 fn restart(channels: ChannelRecord) -> ChannelRecord {
     let mut saved = [0u8; MAX_FORM_LEN];
-    match save(channels, Form::One, &mut saved) {
+    let length = save(channels, Form::One, &mut saved);
+    match length {
         LengthAnswer::Done(n) => {
-            let restored = restore(ChannelRecord::new(), Form::One, &saved[..n]);
+            let restored = restore(ChannelRecord::new(), Form::One, written(length, &saved));
             let answer = restored.answer;
             match answer {
                 DoneAnswer::Done => say(b"restored, octets: ", n as u64),

@@ -11,15 +11,15 @@ use Rattle.uslp_counting.specs.History.Call.{hears, hears-many, opens, c
 
 -- of a frame that is heard by itself, both say alike whether it is of the channel K
 abbrev pub Agrees : Naming → Naming → Channel → Call → Type 0
-Agrees name by K (hears s fecf) =
-    (x : TransferFrame) → frameReading s fecf ≡ done x → isOf by K x ≡ isOf name K x
-Agrees name by K (hears-many s fecf) = Unit {0}
+Agrees name by K (hears s managed) =
+    (x : TransferFrame) → frameReading s managed ≡ done x → isOf by K x ≡ isOf name K x
+Agrees name by K (hears-many s managed) = Unit {0}
 Agrees name by K (opens k width) = Unit {0}
 Agrees name by K (closes k) = Unit {0}
 
 pub agrees-self : (name : Naming) (K : Channel) (c : Call) → Agrees name name K c
-agrees-self name K (hears s fecf) = λ x e. refl
-agrees-self name K (hears-many s fecf) = tt
+agrees-self name K (hears s managed) = λ x e. refl
+agrees-self name K (hears-many s managed) = tt
 agrees-self name K (opens k width) = tt
 agrees-self name K (closes k) = tt
 

@@ -3,19 +3,20 @@ use mathlib.Core.Path.{_≡_, refl, sym, _∙_, ap}
 use mathlib.Core.Bool.{Bool, true, false, cond}
 use mathlib.Core.List.{List, [], _∷_, _++_}
 use Prim.Native.Nat.{ℕ, _+_, _-_, _^_, _%_, _/_, _<_, _≤_}
+use native.Mathlib.Nat.{mod-lt}
 use native.Mathlib.Omega.{arith}
 use Rattle.uslp_kinds.specs.Outcome.{Outcome, done, andThen}
 use Rattle.uslp_kinds.proofs.Outcomes.{not-done}
-use Rattle.uslp_record.specs.Slots.{sameChannel, find, put}
-use Rattle.uslp_record.specs.Record.{keeping}
-use Rattle.uslp_record.specs.Judging.{ahead, arrivalOf, overfull, arrivalAt, totalsAt, widthAt, judging, taken}
+use Rattle.uslp_kinds.specs.declared.ManagedParameters.{ManagedParameters}
+use Rattle.uslp_record.specs.Slots.{sameChannel, find, put, Change}
+use Rattle.uslp_record.specs.Record.{keeping, applied}
+use Rattle.uslp_record.specs.Judging.{ahead, arrivalOf, overfull, arrivalAt, totalsAt, widthAt, judging}
 use Rattle.uslp_record.specs.declared.Channel.{Channel}
 use Rattle.uslp_record.specs.declared.SlotState.{SlotState}
 use Rattle.uslp_record.specs.declared.SlotState.the-variants.{Heard}
 use Rattle.uslp_record.specs.declared.ChannelRecord.{ChannelRecord}
 use Rattle.uslp_record.specs.declared.Arrival.{Arrival}
 use Rattle.uslp_record.specs.declared.Arrival.the-variants.{New, Repeat, Late}
-use Rattle.uslp_record.specs.declared.Change.{Change}
 use Rattle.uslp_record.proofs.Count.{counts-positive, arrives-again, arrives-new, arrives-late}
 use Rattle.uslp_record.proofs.Hears.{judged-full, judged-done}
 use Rattle.uslp_record.proofs.Slots.{same-self, same-one}
@@ -31,19 +32,22 @@ use Rattle.uslp_counting.proofs.Ahead.{half-twice, ahead-on, ahead-back
 use Rattle.uslp_counting.proofs.Stands.{Stands}
 use Rattle.uslp_counting.proofs.Agrees.{Agrees}
 
-module _ {name : Naming} {K : Channel} {width : ℕ} {fecf : Bool} (S : Sender name K width fecf) where
+module _ {name : Naming} {K : Channel} {width : ℕ} {managed : ManagedParameters} (S : Sender name K width managed) where
   -- the count at a place, and the frame that the reader finds there
   abbrev pub countAt : ℕ → ℕ
   countAt p = (S .start + p) % 256 ^ width
 
+  count-fits : (p : ℕ) → countAt p < 256 ^ width
+  count-fits p = mod-lt (S .start + p) (counts-positive width)
+
   abbrev pub sentAt : ℕ → TransferFrame
-  sentAt p = frameOf (S .header p) (S .field p) (S .contents p) (S .ocf p)
+  sentAt p = frameOf (S .fields p)
 
   module _ (p : ℕ) (behind : List ℕ) where
-    pub reads : frameReading (frameAt S p ++ behind) fecf ≡ done (sentAt p)
-    reads = complete fecf (S .spare p) (S .header p) (S .field p) (S .contents p) (S .ocf p) behind (S .spare-fits p) (S .well-formed p)
+    pub reads : frameReading (frameAt S p ++ behind) managed ≡ done (sentAt p)
+    reads = complete managed (S .spare p) (S .fields p) behind (S .spare-fits p) (S .well-formed p)
 
-    same-here : sameChannel (name (S .header p)) K ≡ true
+    same-here : sameChannel (name (S .fields p .header)) K ≡ true
     same-here = ap (λ (k : Channel). sameChannel k K) (S .of-channel p) ∙ same-self K
 
     -- what is handed on where the answer is NEW
@@ -51,27 +55,27 @@ module _ {name : Naming} {K : Channel} {width : ℕ} {fecf : Bool} (S : Sender n
     handing-new gap =
         ap (λ (b : Bool). cond b ((gap, sentAt p, contentsIn (sentAt p) (frameAt S p ++ behind)) ∷ []) []) same-here
         ∙ ap (λ (l : List ℕ). (gap, sentAt p, l) ∷ [])
-        (complete-contents fecf (S .spare p) (S .header p) (S .field p) (S .contents p) (S .ocf p) behind (S .spare-fits p) (S .well-formed p))
+        (complete-contents managed (S .spare p) (S .fields p) behind (S .spare-fits p) (S .well-formed p))
 
     -- a console that names channels by `by`, which agrees on this frame
-    module _ (by : Naming) (agree : Agrees name by K (hears (frameAt S p ++ behind) fecf)) (r : ChannelRecord) (t : SlotState) (at : Stands K r t)
+    module _ (by : Naming) (agree : Agrees name by K (hears (frameAt S p ++ behind) managed)) (r : ChannelRecord) (t : SlotState) (at : Stands K r t)
         (hi : width ≤ 7) (wide : width ≡ widthAt t) where
-      frame-heard : hearingBy by r (frameAt S p ++ behind) fecf ≡ taken r (withFrame (sentAt p) (judging r K width (countAt p)))
+      frame-heard : hearingBy by r (frameAt S p ++ behind) managed ≡ applied r (withFrame (sentAt p) (judging r K width (countAt p)))
       frame-heard =
-          ap (λ (o : Outcome TransferFrame). taken r (andThen o (judgedBy by r))) reads
-          ∙ ap (λ (k : Channel). taken r (withFrame (sentAt p) (judging r k (S .header p .«vc_frame_count_len») (S .header p .«vc_frame_count»))))
-          (same-one (by (S .header p)) K (agree (sentAt p) reads ∙ same-here))
-          ∙ ap (λ (w : ℕ). taken r (withFrame (sentAt p) (judging r K w (S .header p .«vc_frame_count»)))) (S .of-width p)
-          ∙ ap (λ (n : ℕ). taken r (withFrame (sentAt p) (judging r K width n))) (S .numbered p)
+          ap (λ (o : Outcome TransferFrame). applied r (andThen o (judgedBy by r))) reads
+          ∙ ap (λ (k : Channel). applied r (withFrame (sentAt p) (judging r k (S .fields p .header .«vc_frame_count_len») (S .fields p .header .«vc_frame_count»))))
+          (same-one (by (S .fields p .header)) K (agree (sentAt p) reads ∙ same-here))
+          ∙ ap (λ (w : ℕ). applied r (withFrame (sentAt p) (judging r K w (S .fields p .header .«vc_frame_count»)))) (S .of-width p)
+          ∙ ap (λ (n : ℕ). applied r (withFrame (sentAt p) (judging r K width n))) (S .numbered p)
 
       pub arrival-done : overfull (totalsAt t (countAt p)) ≡ false
-          → hearingBy by r (frameAt S p ++ behind) fecf
+          → hearingBy by r (frameAt S p ++ behind) managed
           ≡ keeping (done (frameArrival (sentAt p) (arrivalAt t (countAt p)))) (put r (find K (r .slots)) (Heard K width (totalsAt t (countAt p))))
-      arrival-done e = frame-heard ∙ ap (λ (o : Outcome (Arrival × Change)). taken r (withFrame (sentAt p) o))
-          (judged-done r K width (countAt p) hi (at .there) t (at .state) wide e)
+      arrival-done e = frame-heard ∙ ap (λ (o : Outcome (Arrival × Change)). applied r (withFrame (sentAt p) o))
+          (judged-done r K width (countAt p) hi (count-fits p) (at .there) t (at .state) wide e)
 
       -- a hearing that does not get TOTAL_FULL, and totals that are not full
-      pub room-in : Roomy name (hearingBy by) K r (hears (frameAt S p ++ behind) fecf) → overfull (totalsAt t (countAt p)) ≡ false
+      pub room-in : Roomy name (hearingBy by) K r (hears (frameAt S p ++ behind) managed) → overfull (totalsAt t (countAt p)) ≡ false
       room-in room = go (overfull (totalsAt t (countAt p))) refl
         where
           go : (b : Bool) → overfull (totalsAt t (countAt p)) ≡ b → b ≡ false
@@ -79,11 +83,11 @@ module _ {name : Naming} {K : Channel} {width : ℕ} {fecf : Bool} (S : Sender n
               absurd
               (room (sentAt p) reads same-here
               (ap answerOf
-              (frame-heard ∙ ap (λ (o : Outcome (Arrival × Change)). taken r (withFrame (sentAt p) o))
-              (judged-full r K width (countAt p) hi (at .there) t (at .state) wide e))))
+              (frame-heard ∙ ap (λ (o : Outcome (Arrival × Change)). applied r (withFrame (sentAt p) o))
+              (judged-full r K width (countAt p) hi (count-fits p) (at .there) t (at .state) wide e))))
           go false e = refl
 
-      pub room-out : overfull (totalsAt t (countAt p)) ≡ false → Roomy name (hearingBy by) K r (hears (frameAt S p ++ behind) fecf)
+      pub room-out : overfull (totalsAt t (countAt p)) ≡ false → Roomy name (hearingBy by) K r (hears (frameAt S p ++ behind) managed)
       room-out e x d same f = not-done (sym (sym (ap answerOf (arrival-done e)) ∙ f))
 
   -- p arrives after the furthest was q

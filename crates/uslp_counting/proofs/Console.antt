@@ -18,7 +18,7 @@ use Rattle.uslp_record.specs.declared.ChannelRecord.{ChannelRecord}
 use Rattle.uslp_record.proofs.Seek.{finds}
 use Rattle.uslp_counting.specs.History.{missingFor}
 use Rattle.uslp_record.specs.Made.{Distinct, Made}
-use Rattle.uslp_counting.specs.Console.{channelIn, openIn, sumOver, missingOverOpen}
+use Rattle.uslp_counting.specs.Console.{channelsOf, openIn, sumOver, missingOverOpen}
 use Rattle.uslp_record.proofs.Slots.{true-false, same-self, seek-passes, seek-none}
 use Rattle.uslp_record.proofs.Keeps.{total-fits}
 
@@ -31,7 +31,7 @@ module _ (r : ChannelRecord) (long : length (r .slots) ≡ 8) (once : Distinct r
         | no a ↦ absurd (true-false e (seek-none (holds k) (find k) (finds k) (r .slots) (slotOf Closed) i (omega arith) (omega arith)))
       ]
 
-  slot-missing : (t : SlotState) (i : ℕ) → i < 8 → stateAt r i ≡ t → sumOver (λ (k : Channel). missingFor k r) (channelIn t) ≡ missingOf t
+  slot-missing : (t : SlotState) (i : ℕ) → i < 8 → stateAt r i ≡ t → sumOver (λ (k : Channel). missingFor k r) (channelsOf t) ≡ missingOf t
   slot-missing Closed i h e = refl
   slot-missing (Opened k w) i h e =
       add-zero (missingFor k r)
@@ -52,7 +52,7 @@ module _ (r : ChannelRecord) (long : length (r .slots) ≡ 8) (once : Distinct r
   from (x ∷ l) i e at =
       let here = slot-missing (x .state) i (omega arith) (ap (stateAt r) (sym (add-zero i)) ∙ at 0 (omega arith)) in
       let rest = from l (i + 1) (omega arith) (λ j h. let q : i + 1 + j ≡ i + suc j = omega arith in ap (stateAt r) q ∙ at (suc j) (omega arith)) in
-      sum-append (λ (k : Channel). missingFor k r) (channelIn (x .state)) (openIn l) ∙ omega (arith, here, rest)
+      sum-append (λ (k : Channel). missingFor k r) (channelsOf (x .state)) (openIn l) ∙ omega (arith, here, rest)
 
   pub console-sum : missingIn (r .slots) ≡ missingOverOpen r
   console-sum = sym (from (r .slots) 0 (omega arith) (λ j h. ap (stateAt r) (zero-add j)))

@@ -1,8 +1,9 @@
 -- What each kind of event makes of the record and of the count: one clause a kind.
 use mathlib.Core.Path.{_≡_, refl, sym, _∙_, ap, subst}
-use mathlib.Core.Bool.{Bool, false}
+use mathlib.Core.Bool.{false}
 use mathlib.Core.List.{List, [], _∷_, _++_}
 use Prim.Native.Nat.{ℕ, _^_, _/_, _≤_}
+use Rattle.uslp_kinds.specs.declared.ManagedParameters.{ManagedParameters}
 use Rattle.uslp_record.specs.Judging.{overfull, totalsAt}
 use Rattle.uslp_record.specs.Record.{Kept}
 use Rattle.uslp_record.specs.declared.Channel.{Channel}
@@ -46,7 +47,7 @@ module _ {name : Naming} {K : Channel} {width : ℕ} where
   window-first (closed k o) seen ps near = (tt, near)
   window-first (again w) seen ps near = (tt, near)
 
-module _ {name : Naming} {K : Channel} {width : ℕ} {fecf : Bool} (S : Sender name K width fecf) where
+module _ {name : Naming} {K : Channel} {width : ℕ} {managed : ManagedParameters} (S : Sender name K width managed) where
   -- The channel stands after the event and the count goes on: with the places that follow, the leaders are those that were asked for, and
   -- what is handed on is what they ask for.
   pub record Went (e : Event name K width) (q : List Handing × ChannelRecord) (seen before : List ℕ) : Type 0 where

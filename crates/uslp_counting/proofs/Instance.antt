@@ -1,6 +1,5 @@
 -- Histories of the oven in width 1: the places 0 and q arrive, of 256 counts. What is asked of a history can be met, and the window is tight.
 use mathlib.Core.Path.{_≡_, refl, ap, _∙_}
-use mathlib.Core.Bool.{false}
 use mathlib.Core.List.{List, [], _∷_, _++_, map}
 use Prim.Native.Nat.{ℕ, _-_, _/_, _<_, _≤_}
 use native.Mathlib.Omega.{arith}
@@ -9,6 +8,7 @@ use lib.Dec.{lit<}
 use lib.ListN.{length}
 use Rattle.uslp_octets.specs.Octets.{AreOctets, bitsIn, valueOf, pack}
 use Rattle.uslp_octets.proofs.Laws.{are-append, are-number}
+use Rattle.uslp_kinds.specs.Managed.{noFecf}
 use Rattle.uslp_kinds.specs.Outcome.{done}
 use Rattle.uslp_kinds.specs.declared.BypassSequenceControlFlag.{BypassSequenceControlFlag}
 use Rattle.uslp_kinds.specs.declared.BypassSequenceControlFlag.the-variants.{SequenceControlledQoS}
@@ -26,22 +26,23 @@ use Rattle.uslp_counting.specs.Places.{furthest, aheadOf, leaders, Close
 use Rattle.uslp_counting.specs.History.{run, handed, singly, missingFor, Sender, frameAt, Event, Call, callOf, handingAt, following, handings, places}
 use Rattle.uslp_counting.specs.History.Call.{hears-many}
 use Rattle.uslp_counting.specs.History.Event.{arrives}
-use Rattle.uslp_many.specs.Many.{manyHearing}
+use Rattle.uslp_counting.specs.Demand.{Begun}
+use Rattle.uslp_end_to_end.specs.Many.{manyHearing}
 use Rattle.uslp_counting.proofs.Singly.{run-singly, handed-singly}
-use Rattle.uslp_counting.proofs.Called.{many-called}
+use Rattle.uslp_counting.proofs.MadeByCalls.{many-called}
 use Rattle.uslp_counting.proofs.Lost.{lost-more, lost-one}
 use Rattle.uslp_counting.proofs.Theorem.{counted}
 use Rattle.uslp_counting.proofs.Room.{unfilled}
 use Rattle.uslp_counting.proofs.Witness.{craft, reading, whole, are-octets, headerAt, oven}
 
-abbrev pub sender : Sender channelOf craft 1 false
-sender = oven SequenceControlledQoS 0 1 (omega arith) false
+abbrev pub sender : Sender channelOf craft 1 noFecf
+sender = oven SequenceControlledQoS 0 1 (omega arith) noFecf
 
 -- its frames are octets, and so are those of either flag and any first count
-pub are-oven : (flag : BypassSequenceControlFlag) (start p : ℕ) → AreOctets (frameAt (oven flag start 1 (omega arith) false) p)
+pub are-oven : (flag : BypassSequenceControlFlag) (start p : ℕ) → AreOctets (frameAt (oven flag start 1 (omega arith) noFecf) p)
 unfolding oven
 are-oven flag start p =
-    let h = table 0 (headerAt flag start 1 (omega arith) false p) in
+    let h = table 0 (headerAt flag start 1 (omega arith) noFecf p) in
     let f = fieldTable whole in
     are-append (pack h) (pack f ++ (reading ++ [])) (are-number (bitsIn h / 8) (valueOf h))
     (are-append (pack f) (reading ++ []) (are-number (bitsIn f / 8) (valueOf f)) (are-append reading [] are-octets (λ i. lit< tt)))
@@ -56,6 +57,9 @@ begun = put emptyRecord 0 (Opened craft 1)
 pub begins : opening emptyRecord craft 1 ≡ keeping (done tt) begun
 unfolding opening find vacant
 begins = refl
+
+pub was-begun : Begun craft 1 begun
+was-begun = record { before = emptyRecord; eight = refl; opens = begins }
 
 -- p arrives, and then q
 abbrev pub two : ℕ → ℕ → List (Event channelOf craft 1)
@@ -81,9 +85,8 @@ pub one-missing : (handed channelOf frameHearing craft begun (calls 0 2) ≡ han
 unfolding places leaders aheadOf handings following
 one-missing =
     let less = lost-two 2 (omega arith) in
-    let c = counted craft 1 false sender (omega arith) (omega arith) emptyRecord begun refl begins (two 0 2) (calls 0 2) refl (near 2 (omega arith))
-    (unfilled sender (omega arith) (omega arith) emptyRecord begun refl begins (two 0 2) (calls 0 2) refl (near 2 (omega arith)) (omega arith)
-    (omega arith)) in
+    let c = counted craft 1 noFecf sender begun was-begun (two 0 2) (calls 0 2) refl
+    (unfilled sender begun was-begun (two 0 2) (calls 0 2) refl (near 2 (omega arith)) (omega arith) (omega arith)) (near 2 (omega arith)) in
     (c .0, c .1 ∙ less)
 
 -- both in one call
@@ -91,18 +94,18 @@ abbrev pub frames : List ℕ
 frames = frameAt sender 0 ++ frameAt sender 2
 
 abbrev pub together : List Call
-together = hears-many frames false ∷ []
+together = hears-many frames noFecf ∷ []
 
 pub stands : singly together ≡ calls 0 2
 unfolding oven cutUpTo frameReading headerReading fieldReading
 stands = refl
 
 pub one-missing-together : (handed channelOf frameHearing craft begun together ≡ handingAt sender 0 0 ∷ handingAt sender 1 2 ∷ [])
-    × (missingFor craft (manyHearing begun frames false .next) ≡ 1)
+    × (missingFor craft (manyHearing begun frames noFecf .next) ≡ 1)
 unfolding run
 one-missing-together = (
   handed-singly channelOf frameHearing craft together begun ∙ ap (handed channelOf frameHearing craft begun) stands ∙ one-missing .0,
-  ap (missingFor craft) (many-called craft begun frames false ∙ run-singly channelOf frameHearing craft together begun
+  ap (missingFor craft) (many-called craft begun frames noFecf ∙ run-singly channelOf frameHearing craft together begun
       ∙ ap (run channelOf frameHearing craft begun) stands)
       ∙ one-missing .1,
 )

@@ -12,7 +12,7 @@ pub mod Theorem
 pub mod Room
 pub mod Refusals
 pub mod Console
-pub mod Called
+pub mod MadeByCalls
 pub mod Updated
 pub mod Witness
 pub mod Instance
@@ -22,3 +22,4 @@ pub mod Shared
 pub mod Urgent
 pub mod Wrong
 pub mod Blocks
+pub mod Live

@@ -1,10 +1,10 @@
 -- A call that is refused changes no record.
 use mathlib.Core.Path.{_≡_, refl, sym}
-use mathlib.Core.Bool.{Bool}
 use mathlib.Core.List.{List}
 use Prim.Native.Nat.{ℕ}
 use Rattle.uslp_kinds.specs.Outcome.{refused}
 use Rattle.uslp_kinds.proofs.Outcomes.{not-done}
+use Rattle.uslp_kinds.specs.declared.ManagedParameters.{ManagedParameters}
 use Rattle.uslp_record.specs.Record.{Kept, opening, closing}
 use Rattle.uslp_record.specs.declared.Channel.{Channel}
 use Rattle.uslp_record.specs.declared.ChannelRecord.{ChannelRecord}
@@ -17,8 +17,9 @@ module _ (r : ChannelRecord) (k : ℕ) (vs : List ℕ) where
   abbrev Unchanged : {A : Type 0} → Kept A → Type 0
   Unchanged q = answerOf q ≡ refused k vs → recordOf q ≡ r
 
-  pub hearing-refused : (s : List ℕ) (fecf : Bool) → answerOf (frameHearing r s fecf) ≡ refused k vs → recordOf (frameHearing r s fecf) ≡ r
-  hearing-refused s fecf = frame-ways channelOf Unchanged r s fecf (λ j ws e. refl) (λ x d g e. absurd (not-done (sym e)))
+  pub hearing-refused : (s : List ℕ) (managed : ManagedParameters) → answerOf (frameHearing r s managed) ≡ refused k vs
+      → recordOf (frameHearing r s managed) ≡ r
+  hearing-refused s managed = frame-ways channelOf Unchanged r s managed (λ j ws e. refl) (λ x d g e. absurd (not-done (sym e)))
 
   module _ (c : Channel) where
     pub opening-refused : (w : ℕ) → answerOf (opening r c w) ≡ refused k vs → recordOf (opening r c w) ≡ r

@@ -6,6 +6,7 @@ use Prim.Native.Nat.{ℕ, _≤_}
 use native.Mathlib.Omega.{arith}
 use lib.ListN.{length, take, drop}
 use lib.Seq.{take-append-seam}
+use Rattle.uslp_kinds.specs.declared.ManagedParameters.{ManagedParameters}
 use Rattle.uslp_record.specs.Slots.{holds, find, slotOf}
 use Rattle.uslp_record.specs.Record.{opening, closing}
 use Rattle.uslp_record.specs.declared.Channel.{Channel}
@@ -16,10 +17,10 @@ use Rattle.uslp_record.proofs.Slots.{seek-passes}
 use Rattle.uslp_record.specs.declared.ChannelRecord.{ChannelRecord}
 use Rattle.uslp_form.specs.Entries.{Each, Once, isOpened, isHeard}
 use Rattle.uslp_form.specs.declared.Form.{Form}
-use Rattle.uslp_form.specs.Form.{EntryWhole, Whole, sorted, formOf, Fitting, GoodForm, restored}
+use Rattle.uslp_form.specs.Form.{EntrySaid, RecordSaid, sorted, formOf, Fitting, GoodForm, restored}
 use Rattle.uslp_form.proofs.Each.{each-from}
 use Rattle.uslp_form.proofs.Sorted.{sorted-each}
-use Rattle.uslp_form.proofs.Flags.{none-lacks}
+use Rattle.uslp_form.proofs.Flags.{said-each}
 use Rattle.uslp_form.proofs.Restored.{each-at, eight-restored}
 use Rattle.uslp_form.proofs.Trips.{unheardOf, heardOf, entriesOf, found-again}
 use Rattle.uslp_form.proofs.Claims.{Saves, saves}
@@ -30,6 +31,7 @@ use Rattle.uslp_counting.specs.History.{Hearer, Call, EachCall, recordOf
 use Rattle.uslp_counting.specs.History.Call.{hears, opens, closes}
 use Rattle.uslp_counting.specs.History.Event.{arrives, damaged, elsewhere, misfits, opened, closed, again}
 use Rattle.uslp_counting.specs.Restarts.{Wrote, Converted, SavingOf, Restart, Leads}
+use Rattle.uslp_counting.specs.Restarts.Leads.{ends as leads-end, next as leads-next, restart as leads-restart}
 use Rattle.uslp_counting.specs.Restarts.SavingOf.{wrote, converted}
 use Rattle.uslp_counting.specs.Restarts.Restart.{resumes, refuses}
 use Rattle.uslp_counting.proofs.Singly.{Steps, steps-of}
@@ -41,21 +43,21 @@ module _ {f : Form} {r : ChannelRecord} {s : List ℕ} (w : Wrote f r s) where
   wrote-saves : Saves f r (w .buffer) (w .count) (w .left)
   wrote-saves = saves f r (w .buffer) (sym (w .saves))
 
-  pub wrote-whole : Whole f r
-  wrote-whole = wrote-saves .whole
+  pub wrote-said : RecordSaid f r
+  wrote-said = wrote-saves .said
 
   pub wrote-form : s ≡ formOf f r
   wrote-form =
       sym (w .octets) ∙ ap₂ (λ (k : ℕ) (l : List ℕ). take k l) (wrote-saves .count) (wrote-saves .left)
       ∙ take-append-seam (formOf f r) (drop (length (formOf f r)) (w .buffer))
 
-module _ (f : Form) (r : ChannelRecord) (fit : Fitting f r) (whole : Whole f r) where
+module _ (f : Form) (r : ChannelRecord) (fit : Fitting f r) (whole : RecordSaid f r) where
   -- what is saved of either kind is of that kind, and its row gives it back
   saved-entries : (test : SlotState → Bool) → Each (Entry f test) (sorted f test (r .slots))
   saved-entries test =
       sorted-each f test (Entry f test) (r .slots)
       (each-from (λ (x : SlotState). test x ≡ true → Entry f test x) (r .slots)
-      (λ j h e. (e, (fit j, each-at (EntryWhole f) (r .slots) (none-lacks f (r .slots) whole) refl j))))
+      (λ j h e. (e, (fit j, each-at (EntrySaid f) (r .slots) (said-each f (r .slots) whole) refl j))))
 
   -- the entries of octets that a saving wrote are those that it saved
   module _ (us hs : List SlotState) (g : GoodForm f (formOf f r) us hs) where
@@ -106,10 +108,10 @@ module _ {r : ChannelRecord} {us hs : List SlotState} (o : Origin r us hs) where
   origin-good = subst (λ (s : List ℕ). GoodForm (o .form) s us hs) (wrote-form (o .wrote)) (o .good)
 
   pub origin-entries : us ++ hs ≡ entriesOf (o .form) r
-  origin-entries = entries-back (o .form) r (o .fits) (wrote-whole (o .wrote)) us hs origin-good
+  origin-entries = entries-back (o .form) r (o .fits) (wrote-said (o .wrote)) us hs origin-good
 
   origin-stands : (K : Channel) (t : SlotState) → Stands K r t → Stands K (restored (us ++ hs)) t
-  origin-stands = stands-back (o .form) r (o .fits) (wrote-whole (o .wrote)) us hs origin-good
+  origin-stands = stands-back (o .form) r (o .fits) (wrote-said (o .wrote)) us hs origin-good
 
 pub restart-keeps : {r q : ChannelRecord} → Restart r q → (K : Channel) (t : SlotState) → Stands K r t → Stands K q t
 restart-keeps (resumes f s h) K t at =
@@ -118,30 +120,39 @@ restart-keeps (resumes f s h) K t at =
 restart-keeps (refuses f s h) K t at = subst (λ (x : ChannelRecord). Stands K x t) (restores-refused f h) at
 
 -- what hearing, opening and closing keep, the call of each event keeps
-pub event-keeps : {name : Naming} (H : Hearer) {K : Channel} {width : ℕ} {fecf : Bool} (S : Sender name K width fecf) (P : ChannelRecord → Type 0)
-    (Ok : Call → Type 0)
-    → ((r : ChannelRecord) (s : List ℕ) (f : Bool) → Ok (hears s f) → P r → P (recordOf (H r s f)))
-    → ((r : ChannelRecord) (k : Channel) (w : ℕ) → Ok (opens k w) → P r → P (recordOf (opening r k w)))
-    → ((r : ChannelRecord) (k : Channel) → Ok (closes k) → P r → P (recordOf (closing r k)))
-    → (e : Event name K width) (r : ChannelRecord) → Ok (callOf S e) → P r → P (called name H K r (callOf S e) .1)
-event-keeps H {fecf} S P Ok hear start end (arrives p behind) r ok = hear r (frameAt S p ++ behind) fecf ok
-event-keeps H S P Ok hear start end (damaged s f k vs e) r ok = hear r s f ok
-event-keeps H S P Ok hear start end (elsewhere s f x e o) r ok = hear r s f ok
-event-keeps H S P Ok hear start end (misfits s f x e o) r ok = hear r s f ok
-event-keeps H S P Ok hear start end (opened k w o) r ok = start r k w ok
-event-keeps H S P Ok hear start end (closed k o) r ok = end r k ok
-event-keeps H {K} S P Ok hear start end (again w) r ok = start r K w ok
+pub event-keeps : {name : Naming} (H : Hearer) {K : Channel} {width : ℕ} {managed : ManagedParameters} (S : Sender name K width managed) (P : ChannelRecord → Type 0)
+    (Allowed : Call → Type 0)
+    → ((r : ChannelRecord) (s : List ℕ) (f : ManagedParameters) → Allowed (hears s f) → P r → P (recordOf (H r s f)))
+    → ((r : ChannelRecord) (k : Channel) (w : ℕ) → Allowed (opens k w) → P r → P (recordOf (opening r k w)))
+    → ((r : ChannelRecord) (k : Channel) → Allowed (closes k) → P r → P (recordOf (closing r k)))
+    → (e : Event name K width) (r : ChannelRecord) → Allowed (callOf S e) → P r → P (called name H K r (callOf S e) .1)
+event-keeps H {managed} S P Allowed hear start end (arrives p behind) r ok = hear r (frameAt S p ++ behind) managed ok
+event-keeps H S P Allowed hear start end (damaged s f k vs e) r ok = hear r s f ok
+event-keeps H S P Allowed hear start end (elsewhere s f x e o) r ok = hear r s f ok
+event-keeps H S P Allowed hear start end (misfits s f x e o) r ok = hear r s f ok
+event-keeps H S P Allowed hear start end (opened k w o) r ok = start r k w ok
+event-keeps H S P Allowed hear start end (closed k o) r ok = end r k ok
+event-keeps H {K} S P Allowed hear start end (again w) r ok = start r K w ok
 
 -- what the call of each event and each restart keep, a run keeps
-module _ {name : Naming} (H : Hearer) {K : Channel} {width : ℕ} {fecf : Bool} (S : Sender name K width fecf) (P : ChannelRecord → Type 0)
-    (Ok : Call → Type 0) (call : (e : Event name K width) (r : ChannelRecord) → Ok (callOf S e) → P r → P (called name H K r (callOf S e) .1))
+module _ {name : Naming} (H : Hearer) {K : Channel} {width : ℕ} {managed : ManagedParameters} (S : Sender name K width managed) (P : ChannelRecord → Type 0)
+    (Allowed : Call → Type 0) (call : (e : Event name K width) (r : ChannelRecord) → Allowed (callOf S e) → P r → P (called name H K r (callOf S e) .1))
     (back : (r q : ChannelRecord) → Restart r q → P r → P q) where
   steps-keep : {r q : ChannelRecord} {es : List (Event name K width)} {hs : List Handing} → Steps H S r es hs q
-      → P r → EachCall Ok (map (callOf S) es) → P q
+      → P r → EachCall Allowed (map (callOf S) es) → P q
   steps-keep ends p ok = p
   steps-keep (next e room l) p ok = steps-keep l (call e _ (ok .0) p) (ok .1)
   steps-keep (restart g l) p ok = steps-keep l (back _ _ g p) ok
 
-  pub leads-keep : {r q : ChannelRecord} {es : List (Event name K width)} {hs : List Handing} → Leads H S r es hs q
-      → P r → EachCall Ok (map (callOf S) es) → P q
+  pub leads-keep : {r q : ChannelRecord} {es : List (Event name K width)} {hs : List Handing} → Leads Restart H S r es hs q
+      → P r → EachCall Allowed (map (callOf S) es) → P q
   leads-keep l = steps-keep (steps-of H S l)
+
+-- a run over restarts of one kind is one over those of any kind that has them all
+pub leads-mono : (R Q : ChannelRecord → ChannelRecord → Type 0) → ((r q : ChannelRecord) → R r q → Q r q)
+    → {name : Naming} (H : Hearer) {K : Channel} {width : ℕ}
+    {managed : ManagedParameters} (S : Sender name K width managed) {r q : ChannelRecord} {es : List (Event name K width)} {hs : List Handing}
+    → Leads R H S r es hs q → Leads Q H S r es hs q
+leads-mono R Q sub H S leads-end = leads-end
+leads-mono R Q sub H S (leads-next ms c stand room l) = leads-next ms c stand room (leads-mono R Q sub H S l)
+leads-mono R Q sub H S (leads-restart g l) = leads-restart (sub _ _ g) (leads-mono R Q sub H S l)

@@ -6,8 +6,8 @@ use Prim.Native.Nat.{ℕ, _+_, _-_, _^_, _/_, _<_, _≤_}
 use native.Mathlib.Omega.{arith}
 use native.Mathlib.Decide.{decLt}
 use lib.ListN.{length, length-append}
-use Rattle.uslp_kinds.specs.Outcome.{done}
-use Rattle.uslp_record.specs.Record.{most, keeping, opening}
+use Rattle.uslp_kinds.specs.declared.ManagedParameters.{ManagedParameters}
+use Rattle.uslp_record.specs.Record.{most}
 use Rattle.uslp_record.specs.declared.Channel.{Channel}
 use Rattle.uslp_record.specs.declared.SlotState.{SlotState}
 use Rattle.uslp_record.specs.declared.SlotState.the-variants.{Opened}
@@ -17,10 +17,11 @@ use Rattle.uslp_counting.specs.Places.{furthest, aheadOf, leaders, Windo
 use Rattle.uslp_counting.specs.History.{Call, Handing, called, Roomy, Unfilled, standsFor, singly, Sender, Event, callOf, placesOf, places}
 use Rattle.uslp_counting.specs.History.Call.{hears}
 use Rattle.uslp_counting.specs.History.Event.{arrives, damaged, elsewhere, misfits, opened, closed, again}
-use Rattle.uslp_counting.specs.Restarts.{Leads}
+use Rattle.uslp_counting.specs.Demand.{Begun}
+use Rattle.uslp_counting.specs.Restarts.{Restart, Leads}
 use Rattle.uslp_counting.proofs.Singly.{over-roomy, singly-unfilled, Steps, steps-of}
 use Rattle.uslp_counting.proofs.Singly.Steps.{ends, next, restart}
-use Rattle.uslp_counting.proofs.Stands.{Stands, stands-opened}
+use Rattle.uslp_counting.proofs.Stands.{Stands, stands-begun, begun-some, begun-narrow}
 use Rattle.uslp_counting.proofs.Agrees.{agrees-self}
 use Rattle.uslp_counting.proofs.Restarts.{restart-keeps}
 use Rattle.uslp_counting.proofs.Others.{roomy-damaged, roomy-elsewhere, roomy-misfit}
@@ -53,7 +54,7 @@ lost-grows (p ∷ ps) k ks f l top = go (decLt (furthest (k ∷ ks)) p) (λ m e.
         sym (ap (λ (z : Bool). lost ((f ∷ l) ++ cond z (p ∷ ls) ls)) (ahead-no k ks p (omega arith))) in
         omega (arith, ih, e)
 
-module _ {name : Naming} {K : Channel} {width : ℕ} {fecf : Bool} (S : Sender name K width fecf) where
+module _ {name : Naming} {K : Channel} {width : ℕ} {managed : ManagedParameters} (S : Sender name K width managed) where
   counting-grows : {k : ℕ} {ks before : List ℕ} {t : SlotState} → Counting S (k ∷ ks) before t → (ps : List ℕ)
       → lost before ≤ lost (before ++ leaders (k ∷ ks) ps)
   counting-grows (going k ks f l t last top gone all) ps = lost-grows ps k ks f l top
@@ -110,19 +111,20 @@ module _ {name : Naming} {K : Channel} {width : ℕ} {fecf : Bool} (S : Sender n
         (subst (λ (l : List ℕ). lost l ≤ most) (sym (h .leads ps)) less)
     rooms-after (restart g rest) seen before t at c ms near few less = rooms-after rest seen before t (restart-keeps g K t at) c ms near few less
 
-    pub unfilled-over : (r₀ r q : ChannelRecord) → length (r₀ .slots) ≡ 8 → opening r₀ K width ≡ keeping (done tt) r
-        → {es : List (Event name K width)} {hs : List Handing} → Leads (hearingBy name) S r es hs q
-        → (ms : List (Event name K width)) (c : Call) → standsFor c ≡ map (callOf S) ms → Window (256 ^ width / 2) [] (places (es ++ ms))
-        → length (places (es ++ ms)) < 2 ^ 60 → lost (leaders [] (places (es ++ ms))) < 2 ^ 60 → Roomy name (hearingBy name) K q c
-    unfilled-over r₀ r q long begins l ms c stand near few less =
-        over-roomy name (hearingBy name) K q c
-        (subst (Unfilled name (hearingBy name) K q) (sym stand)
-        (rooms-after (steps-of (hearingBy name) S l) [] [] (Opened K width) (stands-opened K width r₀ r long begins) quiet ms near (omega arith) (omega arith)))
+  pub unfilled-over : (r q : ChannelRecord) → Begun K width r
+      → {es : List (Event name K width)} {hs : List Handing} → Leads Restart (hearingBy name) S r es hs q
+      → (ms : List (Event name K width)) (c : Call) → standsFor c ≡ map (callOf S) ms → Window (256 ^ width / 2) [] (places (es ++ ms))
+      → length (places (es ++ ms)) < 2 ^ 60 → lost (leaders [] (places (es ++ ms))) < 2 ^ 60 → Roomy name (hearingBy name) K q c
+  unfilled-over r q begun l ms c stand near few less =
+      over-roomy name (hearingBy name) K q c
+      (subst (Unfilled name (hearingBy name) K q) (sym stand)
+      (rooms-after (begun-some begun) (begun-narrow begun) (steps-of (hearingBy name) S l) [] [] (Opened K width) (stands-begun begun) quiet ms near
+      (omega arith) (omega arith)))
 
-    pub unfilled : (r₀ r : ChannelRecord) → length (r₀ .slots) ≡ 8 → opening r₀ K width ≡ keeping (done tt) r
-        → (es : List (Event name K width)) (cs : List Call) → singly cs ≡ map (callOf S) es → Window (256 ^ width / 2) [] (places es)
-        → length (places es) < 2 ^ 60 → lost (leaders [] (places es)) < 2 ^ 60 → Unfilled name (hearingBy name) K r cs
-    unfilled r₀ r long begins es cs stand near few less =
-        singly-unfilled name (hearingBy name) K cs r
-        (subst (Unfilled name (hearingBy name) K r) (sym stand)
-        (rooms es r [] [] (Opened K width) (stands-opened K width r₀ r long begins) quiet near (omega arith) (omega arith)))
+  pub unfilled : (r : ChannelRecord) → Begun K width r
+      → (es : List (Event name K width)) (cs : List Call) → singly cs ≡ map (callOf S) es → Window (256 ^ width / 2) [] (places es)
+      → length (places es) < 2 ^ 60 → lost (leaders [] (places es)) < 2 ^ 60 → Unfilled name (hearingBy name) K r cs
+  unfilled r begun es cs stand near few less =
+      singly-unfilled name (hearingBy name) K cs r
+      (subst (Unfilled name (hearingBy name) K r) (sym stand)
+      (rooms (begun-some begun) (begun-narrow begun) es r [] [] (Opened K width) (stands-begun begun) quiet near (omega arith) (omega arith)))

@@ -1,8 +1,8 @@
 -- A call of many frames is the hearings that it stands for: a history of calls is one of calls of one frame at the most.
 use mathlib.Core.Path.{_≡_, refl, sym, _∙_, ap, subst}
-use mathlib.Core.Bool.{Bool}
 use mathlib.Core.List.{List, [], _∷_, _++_, map, append-nil, append-assoc}
 use Prim.Native.Nat.{ℕ}
+use Rattle.uslp_kinds.specs.declared.ManagedParameters.{ManagedParameters}
 use Rattle.uslp_reader.specs.declared.TransferFrame.{TransferFrame}
 use Rattle.uslp_reader.specs.EndToEnd.{cut}
 use Rattle.uslp_record.specs.declared.Channel.{Channel}
@@ -15,25 +15,26 @@ use Rattle.uslp_counting.specs.Restarts.{Restart, Leads}
 use Rattle.uslp_counting.specs.Restarts.Leads.{ends as leads-end, next as leads-next, restart as leads-restart}
 
 -- hearing a frame's own octets
-abbrev hearing : Bool → TransferFrame × List ℕ → Call
-hearing fecf f = hears (f .1) fecf
+abbrev hearing : ManagedParameters → TransferFrame × List ℕ → Call
+hearing managed f = hears (f .1) managed
 
 module _ (name : Naming) (H : Hearer) (K : Channel) where
   -- what calls hand on, and the record after them
   abbrev over : ChannelRecord → List Call → List Handing × ChannelRecord
   over r cs = (handed name H K r cs, run name H K r cs)
 
-  all-over : (fecf : Bool) (fs : List (TransferFrame × List ℕ)) (r : ChannelRecord) → heardAll name H K r fs fecf ≡ over r (map (hearing fecf) fs)
+  all-over : (managed : ManagedParameters) (fs : List (TransferFrame × List ℕ)) (r : ChannelRecord)
+      → heardAll name H K r fs managed ≡ over r (map (hearing managed) fs)
   unfolding heardAll run handed
-  all-over fecf [] r = refl
-  all-over fecf (f ∷ fs) r =
-      ap (λ (q : List Handing × ChannelRecord). (heard name H K r (f .1) fecf .0 ++ q .0, q .1)) (all-over fecf fs (heard name H K r (f .1) fecf .1))
+  all-over managed [] r = refl
+  all-over managed (f ∷ fs) r =
+      ap (λ (q : List Handing × ChannelRecord). (heard name H K r (f .1) managed .0 ++ q .0, q .1)) (all-over managed fs (heard name H K r (f .1) managed .1))
 
-  all-unfilled : (fecf : Bool) (fs : List (TransferFrame × List ℕ)) (r : ChannelRecord)
-      → NoneFull name H K r fs fecf → Unfilled name H K r (map (hearing fecf) fs)
+  all-unfilled : (managed : ManagedParameters) (fs : List (TransferFrame × List ℕ)) (r : ChannelRecord)
+      → NoneFull name H K r fs managed → Unfilled name H K r (map (hearing managed) fs)
   unfolding NoneFull Unfilled
-  all-unfilled fecf [] r room = tt
-  all-unfilled fecf (f ∷ fs) r room = (room .0, all-unfilled fecf fs (heard name H K r (f .1) fecf .1) (room .1))
+  all-unfilled managed [] r room = tt
+  all-unfilled managed (f ∷ fs) r room = (room .0, all-unfilled managed fs (heard name H K r (f .1) managed .1) (room .1))
 
   one-over : (r : ChannelRecord) (c : Call) → called name H K r c ≡ over r (c ∷ [])
   unfolding run handed
@@ -45,31 +46,31 @@ module _ (name : Naming) (H : Hearer) (K : Channel) where
 
   -- a call and what it stands for
   pub called-over : (r : ChannelRecord) (c : Call) → called name H K r c ≡ over r (standsFor c)
-  called-over r (hears s fecf) = one-over r (hears s fecf)
-  called-over r (hears-many s fecf) = all-over fecf (cut fecf s .frames) r
+  called-over r (hears s managed) = one-over r (hears s managed)
+  called-over r (hears-many s managed) = all-over managed (cut managed s .frames) r
   called-over r (opens k w) = one-over r (opens k w)
   called-over r (closes k) = one-over r (closes k)
 
   pub roomy-over : (r : ChannelRecord) (c : Call) → Roomy name H K r c → Unfilled name H K r (standsFor c)
-  roomy-over r (hears s fecf) room = one-unfilled r (hears s fecf) room
-  roomy-over r (hears-many s fecf) room = all-unfilled fecf (cut fecf s .frames) r room
+  roomy-over r (hears s managed) room = one-unfilled r (hears s managed) room
+  roomy-over r (hears-many s managed) room = all-unfilled managed (cut managed s .frames) r room
   roomy-over r (opens k w) room = one-unfilled r (opens k w) room
   roomy-over r (closes k) room = one-unfilled r (closes k) room
 
   -- and back
-  all-none-full : (fecf : Bool) (fs : List (TransferFrame × List ℕ)) (r : ChannelRecord)
-      → Unfilled name H K r (map (hearing fecf) fs) → NoneFull name H K r fs fecf
+  all-none-full : (managed : ManagedParameters) (fs : List (TransferFrame × List ℕ)) (r : ChannelRecord)
+      → Unfilled name H K r (map (hearing managed) fs) → NoneFull name H K r fs managed
   unfolding NoneFull Unfilled
-  all-none-full fecf [] r room = tt
-  all-none-full fecf (f ∷ fs) r room = (room .0, all-none-full fecf fs (heard name H K r (f .1) fecf .1) (room .1))
+  all-none-full managed [] r room = tt
+  all-none-full managed (f ∷ fs) r room = (room .0, all-none-full managed fs (heard name H K r (f .1) managed .1) (room .1))
 
   one-roomy : (r : ChannelRecord) (c : Call) → Unfilled name H K r (c ∷ []) → Roomy name H K r c
   unfolding Unfilled
   one-roomy r c room = room .0
 
   pub over-roomy : (r : ChannelRecord) (c : Call) → Unfilled name H K r (standsFor c) → Roomy name H K r c
-  over-roomy r (hears s fecf) room = one-roomy r (hears s fecf) room
-  over-roomy r (hears-many s fecf) room = all-none-full fecf (cut fecf s .frames) r room
+  over-roomy r (hears s managed) room = one-roomy r (hears s managed) room
+  over-roomy r (hears-many s managed) room = all-none-full managed (cut managed s .frames) r room
   over-roomy r (opens k w) room = one-roomy r (opens k w) room
   over-roomy r (closes k) room = one-roomy r (closes k) room
 
@@ -132,7 +133,7 @@ module _ (name : Naming) (H : Hearer) (K : Channel) where
             (subst (λ (q : List Handing × ChannelRecord). Unfilled name H K (q .1) (singly cs)) (sym (called-over r c)) (p .1)),
       )
 
-module _ {name : Naming} (H : Hearer) {K : Channel} {width : ℕ} {fecf : Bool} (S : Sender name K width fecf) where
+module _ {name : Naming} (H : Hearer) {K : Channel} {width : ℕ} {managed : ManagedParameters} (S : Sender name K width managed) where
   -- a run as a step for each event
   pub data Steps : ChannelRecord → List (Event name K width) → List Handing → ChannelRecord → Type 0 where
     ends : {r : ChannelRecord} → Steps r [] [] r
@@ -150,7 +151,7 @@ module _ {name : Naming} (H : Hearer) {K : Channel} {width : ℕ} {fecf : Bool} 
       subst (λ (l : List Handing). Steps r (m ∷ (ms ++ es)) l q) (sym (append-assoc (p .0) (handed name H K (p .1) (map (callOf S) ms)) hs))
       (next m (room .0) (steps-over ms (room .1) rest))
 
-  pub steps-of : {r q : ChannelRecord} {es : List (Event name K width)} {hs : List Handing} → Leads H S r es hs q → Steps r es hs q
+  pub steps-of : {r q : ChannelRecord} {es : List (Event name K width)} {hs : List Handing} → Leads Restart H S r es hs q → Steps r es hs q
   steps-of leads-end = ends
   steps-of (leads-next {r = r} {q = q} {es = es} {hs = hs} ms c stand room rest) =
       let p : called name H K r c ≡ over name H K r (map (callOf S) ms) = called-over name H K r c ∙ ap (over name H K r) stand in

@@ -1,22 +1,23 @@
 -- Where a channel stands in the record, and which calls leave it standing so.
 use mathlib.Core.Path.{_≡_, refl, sym, _∙_, ap, subst}
 use mathlib.Core.Bool.{true, false}
-use Prim.Native.Nat.{ℕ, _<_}
+use Prim.Native.Nat.{ℕ, _<_, _≤_}
 use native.Mathlib.Omega.{arith}
 use lib.ListN.{length, length-set}
 use Rattle.uslp_kinds.specs.Outcome.{Outcome, done}
-use Rattle.uslp_record.specs.Slots.{sameChannel, stateHolds, holds, isClosed, find, vacant, slotOf, stateAt, put}
-use Rattle.uslp_record.specs.Record.{Kept, keeping, opening, closing}
-use Rattle.uslp_record.specs.Judging.{judging, taken}
+use Rattle.uslp_record.specs.Slots.{sameChannel, stateHolds, holds, isClosed, find, vacant, slotOf, stateAt, put, Change}
+use Rattle.uslp_record.specs.Record.{Kept, keeping, opening, closing, applied}
+use Rattle.uslp_record.specs.Judging.{judging}
 use Rattle.uslp_record.specs.declared.Channel.{Channel}
 use Rattle.uslp_record.specs.declared.SlotState.{SlotState}
 use Rattle.uslp_record.specs.declared.SlotState.the-variants.{Closed, Opened}
 use Rattle.uslp_record.specs.declared.ChannelRecord.{ChannelRecord}
 use Rattle.uslp_record.specs.declared.Arrival.{Arrival}
-use Rattle.uslp_record.specs.declared.Change.{Change}
 use Rattle.uslp_record.proofs.Seek.{finds, vacates}
 use Rattle.uslp_counting.specs.History.{recordOf}
+use Rattle.uslp_counting.specs.Demand.{Begun}
 use Rattle.uslp_record.proofs.Slots.{true-false, same-self, holds-other, closed-holds, seek-passes, seek-set, seek-new, put-same, put-other}
+use Rattle.uslp_record.proofs.Keeps.{allowed-width}
 use Rattle.uslp_record.proofs.Ways.{opening-ways, closing-ways, judging-ways}
 
 -- the channel K is in a slot, in the state t
@@ -77,9 +78,9 @@ module _ (K : Channel) (r : ChannelRecord) (t : SlotState) (at : Stands K r t) w
         closing-ways r k (λ (q : Kept (Unit {0})). Stands K (recordOf q) t) (λ j vs. at)
         (λ low. stands-other (find k (r .slots)) Closed low (elsewhere-holds low) refl)
 
-    pub stands-judging : (w n : ℕ) → Stands K (recordOf (taken r (judging r k w n))) t
+    pub stands-judging : (w n : ℕ) → Stands K (recordOf (applied r (judging r k w n))) t
     stands-judging w n =
-        judging-ways r k (λ (o : Outcome (Arrival × Change)). Stands K (recordOf (taken r o)) t) w n (λ j vs. at)
+        judging-ways r k (λ (o : Outcome (Arrival × Change)). Stands K (recordOf (applied r o)) t) w n (λ j vs. at)
         (λ d. stands-other (find k (r .slots)) _ (d .low) (elsewhere-holds (d .low)) other)
 
   -- this one is opened again
@@ -89,7 +90,7 @@ module _ (K : Channel) (r : ChannelRecord) (t : SlotState) (at : Stands K r t) w
       (λ o. absurd (omega (arith, o .none, at .there)))
 
 -- opening a channel
-pub stands-opened : (K : Channel) (w : ℕ) (r₀ r : ChannelRecord) → length (r₀ .slots) ≡ 8 → opening r₀ K w ≡ keeping (done tt) r → Stands K r (Opened K w)
+stands-opened : (K : Channel) (w : ℕ) (r₀ r : ChannelRecord) → length (r₀ .slots) ≡ 8 → opening r₀ K w ≡ keeping (done tt) r → Stands K r (Opened K w)
 stands-opened K w r₀ r long =
     opening-ways r₀ K (λ (q : Kept (Unit {0})). q ≡ keeping (done tt) r → Stands K r (Opened K w)) w
     (λ j vs e. let z : _≡_ {A = ℕ} 0 1 = cc in absurd (omega arith))
@@ -99,3 +100,19 @@ stands-opened K w r₀ r long =
     subst (λ (q : ChannelRecord). Stands K q (Opened K w)) new
     (stands-put K r₀ i (Opened K w) long (o .low)
     (seek-new (holds K) (find K) (finds K) (r₀ .slots) i (slotOf (Opened K w)) (omega (arith, o .none)) (omega (arith, o .low)) (same-self K))))
+
+-- once a channel is begun it stands, and its width is one that opening does not refuse
+module _ {K : Channel} {w : ℕ} {r : ChannelRecord} (b : Begun K w r) where
+  pub stands-begun : Stands K r (Opened K w)
+  stands-begun = stands-opened K w (b .before) r (b .eight) (b .opens)
+
+  begun-width : (1 ≤ w) × (w ≤ 7)
+  begun-width =
+      opening-ways (b .before) K (λ (q : Kept (Unit {0})). q ≡ keeping (done tt) r → (1 ≤ w) × (w ≤ 7)) w
+      (λ j vs e. let z : _≡_ {A = ℕ} 0 1 = cc in absurd (omega arith)) (λ o e. allowed-width K w (o .allowed)) (b .opens)
+
+  pub begun-some : 1 ≤ w
+  begun-some = begun-width .0
+
+  pub begun-narrow : w ≤ 7
+  begun-narrow = begun-width .1

@@ -7,6 +7,7 @@ use native.Mathlib.Omega.{arith}
 use native.Mathlib.Decide.{decLt}
 use lib.ListN.{length}
 use Rattle.uslp_kinds.specs.Outcome.{done}
+use Rattle.uslp_kinds.specs.declared.ManagedParameters.{ManagedParameters}
 use Rattle.uslp_record.specs.Record.{most, missingOf}
 use Rattle.uslp_record.specs.Judging.{ahead, arrivalOf, totalsAfter, firstTotals, overfull, arrivalAt, totalsAt, widthAt}
 use Rattle.uslp_record.specs.declared.Channel.{Channel}
@@ -22,7 +23,7 @@ use Rattle.uslp_counting.specs.History.{Handing, handing, Sender, frameA
 use Rattle.uslp_counting.proofs.Arrival.{countAt, sentAt, handing-new, arrival-repeat, arrival-new, arrival-late}
 use Rattle.uslp_counting.proofs.Lost.{furthest-more, furthest-new, furthest-old, lost-more, lost-one, ahead-yes, ahead-no}
 
-module _ {name : Naming} {K : Channel} {width : ℕ} {fecf : Bool} (S : Sender name K width fecf) where
+module _ {name : Naming} {K : Channel} {width : ℕ} {managed : ManagedParameters} (S : Sender name K width managed) where
   -- the state of the channel, after the places seen, of which `before` were handed on
   pub data Counting : List ℕ → List ℕ → SlotState → Type 0 where
     quiet : Counting [] [] (Opened K width)

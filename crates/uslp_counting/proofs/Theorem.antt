@@ -1,12 +1,10 @@
 -- The console counts what it lacks, over restarts and calls of many frames too: what is handed on is what is ahead of all before it, and
 -- what is missing is what was lost.
 use mathlib.Core.Path.{_≡_, refl, sym, _∙_, ap, subst}
-use mathlib.Core.Bool.{Bool}
 use mathlib.Core.List.{List, [], _∷_, _++_, map, append-nil, append-assoc}
 use Prim.Native.Nat.{ℕ, _^_, _/_, _≤_}
-use lib.ListN.{length}
-use Rattle.uslp_kinds.specs.Outcome.{done}
-use Rattle.uslp_record.specs.Record.{keeping, opening, missingOf}
+use Rattle.uslp_kinds.specs.declared.ManagedParameters.{ManagedParameters}
+use Rattle.uslp_record.specs.Record.{missingOf}
 use Rattle.uslp_record.specs.declared.Channel.{Channel}
 use Rattle.uslp_record.specs.declared.SlotState.{SlotState}
 use Rattle.uslp_record.specs.declared.SlotState.the-variants.{Opened}
@@ -14,11 +12,11 @@ use Rattle.uslp_record.specs.declared.ChannelRecord.{ChannelRecord}
 use Rattle.uslp_hearing.specs.Hearing.{Naming, channelOf, hearingBy, frameHearing}
 use Rattle.uslp_counting.specs.Places.{leaders, Window, lost}
 use Rattle.uslp_counting.specs.History.{Hearer, Call, EachCall, Handing, called, run, handed, Unfilled, singly, missingFor, Sender, Event, callOf, following, handings, placesOf, places}
-use Rattle.uslp_counting.specs.Demand.{Demand3}
-use Rattle.uslp_counting.specs.Restarts.{Leads, Demand3Over}
+use Rattle.uslp_counting.specs.Demand.{Begun, Counts, Demand3}
+use Rattle.uslp_counting.specs.Restarts.{Restart, Leads, Demand3Over}
 use Rattle.uslp_counting.specs.Restarts.Leads.{ends as leads-end, next as leads-next}
 use Rattle.uslp_counting.specs.Updated.{unflagged}
-use Rattle.uslp_counting.proofs.Stands.{Stands, stands-opened}
+use Rattle.uslp_counting.proofs.Stands.{Stands, stands-begun, begun-some, begun-narrow}
 use Rattle.uslp_counting.proofs.Singly.{run-singly, handed-singly, unfilled-singly, Steps, steps-of, stands-alone}
 use Rattle.uslp_counting.proofs.Singly.Steps.{ends, next, restart}
 use Rattle.uslp_counting.proofs.Agrees.{Agrees, all-agree}
@@ -26,7 +24,7 @@ use Rattle.uslp_counting.proofs.Restarts.{restart-keeps}
 use Rattle.uslp_counting.proofs.Step.{Counting, quiet, counting-missing, handingsAfter}
 use Rattle.uslp_counting.proofs.Events.{seenWith, window-first, went}
 
-module _ {name : Naming} {K : Channel} {width : ℕ} {fecf : Bool} (S : Sender name K width fecf) where
+module _ {name : Naming} {K : Channel} {width : ℕ} {managed : ManagedParameters} (S : Sender name K width managed) where
   -- Events that led to the record q and handed hs on, after the places seen, of which `before` were handed on: the channel stands in q with
   -- everything counted, so that what follows can go on from there. With the places ps that follow, the leaders are those that were asked
   -- for, and what is handed on is what they ask for.
@@ -99,33 +97,33 @@ module _ {name : Naming} {K : Channel} {width : ℕ} {fecf : Bool} (S : Sender n
   )
 
 -- demand 3 over restarts holds of the hearing that counts as frames are named
-pub counted-over : (name : Naming) → Demand3Over name (hearingBy name)
-counted-over name K width fecf S lo hi r₀ r q long begins es hs l near =
+pub counted-over : (name : Naming) → Demand3Over Restart name (hearingBy name)
+counted-over name K width managed S r begun es hs q l near =
     counted-all S
-    (counts S name lo hi (steps-of (hearingBy name) S l) (all-agree name K (map (callOf S) es)) [] [] [] (Opened K width)
-    (stands-opened K width r₀ r long begins) quiet (subst (Window (256 ^ width / 2) []) (sym (append-nil (places es))) near))
+    (counts S name (begun-some begun) (begun-narrow begun) (steps-of (hearingBy name) S l) (all-agree name K (map (callOf S) es)) [] [] []
+    (Opened K width) (stands-begun begun) quiet (subst (Window (256 ^ width / 2) []) (sym (append-nil (places es))) near))
 
 -- a history of events is a run without restarts
-pub leads-of : (H : Hearer) {name : Naming} {K : Channel} {width : ℕ} {fecf : Bool} (S : Sender name K width fecf) (es : List (Event name K width))
-    (r : ChannelRecord)
-    → Unfilled name H K r (map (callOf S) es) → Leads H S r es (handed name H K r (map (callOf S) es)) (run name H K r (map (callOf S) es))
+pub leads-of : (R : ChannelRecord → ChannelRecord → Type 0) (H : Hearer) {name : Naming} {K : Channel} {width : ℕ}
+    {managed : ManagedParameters} (S : Sender name K width managed) (es : List (Event name K width)) (r : ChannelRecord)
+    → Unfilled name H K r (map (callOf S) es) → Leads R H S r es (handed name H K r (map (callOf S) es)) (run name H K r (map (callOf S) es))
 unfolding handed run Unfilled
-leads-of H S [] r room = leads-end
-leads-of H {name} {K} S (e ∷ es) r room =
-    leads-next (e ∷ []) (callOf S e) (stands-alone H S e) (room .0) (leads-of H S es (called name H K r (callOf S e) .1) (room .1))
+leads-of R H S [] r room = leads-end
+leads-of R H {name} {K} S (e ∷ es) r room =
+    leads-next (e ∷ []) (callOf S e) (stands-alone H S e) (room .0) (leads-of R H S es (called name H K r (callOf S e) .1) (room .1))
 
 -- so any hearing that has demand 3 over restarts has it without them
-pub over : (name : Naming) (H : Hearer) → Demand3Over name H → Demand3 name H
-over name H demand K width fecf S lo hi r₀ r long begins es cs stand near room =
-    let l = leads-of H S es r (subst (Unfilled name H K r) stand (unfilled-singly name H K cs r room)) in
-    let d = demand K width fecf S lo hi r₀ r _ long begins es _ l near in (
+pub over : (R : ChannelRecord → ChannelRecord → Type 0) (name : Naming) (H : Hearer) → Demand3Over R name H → Demand3 name H
+over R name H demand K width managed S r begun es cs stand room near =
+    let l = leads-of R H S es r (subst (Unfilled name H K r) stand (unfilled-singly name H K cs r room)) in
+    let d = demand K width managed S r begun es _ _ l near in (
       handed-singly name H K cs r ∙ ap (handed name H K r) stand ∙ d .0,
       ap (missingFor K) (run-singly name H K cs r ∙ ap (run name H K r) stand) ∙ d .1,
     )
 
 -- demand 3 holds of the hearing that counts as frames are named
 pub counted-by : (name : Naming) → Demand3 name (hearingBy name)
-counted-by name = over name (hearingBy name) (counted-over name)
+counted-by name = over Restart name (hearingBy name) (counted-over name)
 
 -- of the hearing here, and of the one that ignores the flag
 pub counted : Demand3 channelOf frameHearing
@@ -135,26 +133,30 @@ pub counted-unflagged : Demand3 unflagged (hearingBy unflagged)
 counted-unflagged = counted-by unflagged
 
 -- Only arrivals alter what is counted: two runs in which the same places arrive hand on the same, and have the same missing.
-pub unaltered-over : {K : Channel} {width : ℕ} {fecf : Bool} (S : Sender channelOf K width fecf) → 1 ≤ width → width ≤ 7
-    → (r₀ r r₀′ r′ : ChannelRecord) → length (r₀ .slots) ≡ 8 → length (r₀′ .slots) ≡ 8
-    → opening r₀ K width ≡ keeping (done tt) r → opening r₀′ K width ≡ keeping (done tt) r′
+module _ {K : Channel} {width : ℕ} {managed : ManagedParameters} (S : Sender channelOf K width managed) {ps ps′ : List ℕ} (same : ps ≡ ps′)
+    (near : Window (256 ^ width / 2) [] ps) where
+  alike : (hs hs′ : List Handing) (q q′ : ChannelRecord) → Counts S ps hs q → Counts S ps′ hs′ q′ → (hs ≡ hs′) × (missingFor K q ≡ missingFor K q′)
+  alike hs hs′ q q′ c c′ =
+      let a = c near in
+      let b = c′ (subst (Window (256 ^ width / 2) []) same near) in
+      (a .0 ∙ ap (λ (l : List ℕ). handings S (leaders [] l)) same ∙ sym (b .0), a .1 ∙ ap (λ (l : List ℕ). lost (leaders [] l)) same ∙ sym (b .1))
+
+pub unaltered-over : {K : Channel} {width : ℕ} {managed : ManagedParameters} (S : Sender channelOf K width managed) (r r′ : ChannelRecord)
+    → Begun K width r → Begun K width r′
     → {q q′ : ChannelRecord} {es es′ : List (Event channelOf K width)} {hs hs′ : List Handing}
-    → Leads frameHearing S r es hs q → Leads frameHearing S r′ es′ hs′ q′ → places es ≡ places es′ → Window (256 ^ width / 2) [] (places es)
+    → Leads Restart frameHearing S r es hs q → Leads Restart frameHearing S r′ es′ hs′ q′ → places es ≡ places es′
+    → Window (256 ^ width / 2) [] (places es)
     → (hs ≡ hs′) × (missingFor K q ≡ missingFor K q′)
-unaltered-over {K} {width} {fecf} S lo hi r₀ r r₀′ r′ long long′ begins begins′ {q} {q′} {es} {es′} {hs} {hs′} l l′ same near =
-    let a = counted-over channelOf K width fecf S lo hi r₀ r q long begins es hs l near in
-    let b = counted-over channelOf K width fecf S lo hi r₀′ r′ q′ long′ begins′ es′ hs′ l′ (subst (Window (256 ^ width / 2) []) same near) in
-    (a .0 ∙ ap (λ (ps : List ℕ). handings S (leaders [] ps)) same ∙ sym (b .0), a .1 ∙ ap (λ (ps : List ℕ). lost (leaders [] ps)) same ∙ sym (b .1))
+unaltered-over {K} {width} {managed} S r r′ begun begun′ {q} {q′} {es} {es′} {hs} {hs′} l l′ same near =
+    alike S same near hs hs′ q q′ (counted-over channelOf K width managed S r begun es hs q l) (counted-over channelOf K width managed S r′ begun′ es′ hs′ q′ l′)
 
 -- the same of histories without restarts
-pub unaltered : {K : Channel} {width : ℕ} {fecf : Bool} (S : Sender channelOf K width fecf) → 1 ≤ width → width ≤ 7
-    → (r₀ r r₀′ r′ : ChannelRecord) → length (r₀ .slots) ≡ 8 → length (r₀′ .slots) ≡ 8
-    → opening r₀ K width ≡ keeping (done tt) r → opening r₀′ K width ≡ keeping (done tt) r′
+pub unaltered : {K : Channel} {width : ℕ} {managed : ManagedParameters} (S : Sender channelOf K width managed) (r r′ : ChannelRecord)
+    → Begun K width r → Begun K width r′
     → (es es′ : List (Event channelOf K width)) (cs cs′ : List Call) → singly cs ≡ map (callOf S) es → singly cs′ ≡ map (callOf S) es′
     → places es ≡ places es′ → Window (256 ^ width / 2) [] (places es) → Unfilled channelOf frameHearing K r cs → Unfilled channelOf frameHearing K r′ cs′
     → (handed channelOf frameHearing K r cs ≡ handed channelOf frameHearing K r′ cs′)
     × (missingFor K (run channelOf frameHearing K r cs) ≡ missingFor K (run channelOf frameHearing K r′ cs′))
-unaltered {K} {width} {fecf} S lo hi r₀ r r₀′ r′ long long′ begins begins′ es es′ cs cs′ stand stand′ same near room room′ =
-    let a = counted K width fecf S lo hi r₀ r long begins es cs stand near room in
-    let b = counted K width fecf S lo hi r₀′ r′ long′ begins′ es′ cs′ stand′ (subst (Window (256 ^ width / 2) []) same near) room′ in
-    (a .0 ∙ ap (λ (ps : List ℕ). handings S (leaders [] ps)) same ∙ sym (b .0), a .1 ∙ ap (λ (ps : List ℕ). lost (leaders [] ps)) same ∙ sym (b .1))
+unaltered {K} {width} {managed} S r r′ begun begun′ es es′ cs cs′ stand stand′ same near room room′ =
+    alike S same near _ _ (run channelOf frameHearing K r cs) (run channelOf frameHearing K r′ cs′) (counted K width managed S r begun es cs stand room)
+    (counted K width managed S r′ begun′ es′ cs′ stand′ room′)

@@ -1,6 +1,6 @@
--- There is a sender for every flag, first count, width and FECF choice, so that what `counted` asks can be met.
+-- There is a sender for every flag, first count, width and managed parameters, so that what `counted` asks can be met.
 use mathlib.Core.Path.{_≡_, refl}
-use mathlib.Core.Bool.{Bool, false, cond}
+use mathlib.Core.Bool.{false, cond}
 use mathlib.Core.List.{List, [], _∷_}
 use Prim.Native.Nat.{ℕ, zero, suc, _+_, _%_, _^_, _<_, _≤_}
 use native.Mathlib.Nat.{mod-lt}
@@ -9,6 +9,7 @@ use lib.Dec.{lit<}
 use Rattle.uslp_octets.specs.Octets.{AreOctets}
 use Rattle.uslp_octets.proofs.Laws.{pos}
 use Rattle.uslp_kinds.specs.Outcome.{done}
+use Rattle.uslp_kinds.specs.declared.ManagedParameters.{ManagedParameters}
 use Rattle.uslp_kinds.specs.declared.SourceOrDestField.the-variants.{Dest}
 use Rattle.uslp_kinds.specs.declared.BypassSequenceControlFlag.{BypassSequenceControlFlag}
 use Rattle.uslp_kinds.specs.declared.BypassSequenceControlFlag.the-variants.{SequenceControlledQoS}
@@ -49,7 +50,7 @@ pub whole-passes : fieldChecking whole ≡ done whole
 unfolding fieldChecking
 whole-passes = refl
 
-module _ (flag : BypassSequenceControlFlag) (start width : ℕ) (narrow : width ≤ 7) (fecf : Bool) where
+module _ (flag : BypassSequenceControlFlag) (start width : ℕ) (narrow : width ≤ 7) (managed : ManagedParameters) where
   abbrev pub headerAt : ℕ → PrimaryHeader
   headerAt p =
       record {
@@ -57,7 +58,7 @@ module _ (flag : BypassSequenceControlFlag) (start width : ℕ) (narrow : width 
         «source_or_dest_field» = Dest;
         «vc_id» = 5;
         «map_id» = 3;
-        «frame_len_field» = 9 + width + cond fecf 2 0;
+        «frame_len_field» = 9 + width + cond (managed .«has_fecf») 2 0;
         «sequence_control_flag» = flag;
         «protocol_control_command_flag» = TfdfContainsUserData;
         «ocf_flag» = false;
@@ -65,18 +66,15 @@ module _ (flag : BypassSequenceControlFlag) (start width : ℕ) (narrow : width 
         «vc_frame_count» = (start + p) % 256 ^ width;
       }
 
-  unfoldable pub oven : Sender channelOf (craftBy flag) width fecf
+  unfoldable pub oven : Sender channelOf (craftBy flag) width managed
   oven = record {
     start = start;
-    header = headerAt;
-    field = λ p. whole;
-    contents = λ p. reading;
-    ocf = λ p. Absent;
+    fields = λ p. record { header = headerAt p; field = whole; contents = reading; ocf = Absent };
     spare = λ p. 0;
     well-formed = λ p. record {
       header-fits = record {
         spacecraft-fits = lit< tt;
-        length-fits = omega (arith, cond-le fecf 2 0 (omega arith));
+        length-fits = omega (arith, cond-le (managed .«has_fecf») 2 0 (omega arith));
         checks-pass = checks-done (headerAt p) (omega arith) (omega arith) narrow (mod-lt (start + p) (pos width));
       };
       field-fits = record { pointer-fits = λ q e. let z : _≡_ {A = ℕ} 0 1 = cc in absurd (omega arith); checks-pass = whole-passes };

@@ -4,10 +4,8 @@ use mathlib.Core.Bool.{Bool, true, false, cond}
 use mathlib.Core.List.{List, [], _∷_, _++_, map}
 use Prim.Native.Nat.{ℕ, suc, _+_, _-_, _^_, _%_, _<_}
 use Rattle.uslp_kinds.specs.Outcome.{Outcome, done, refused}
-use Rattle.uslp_kinds.specs.declared.OperationalControlField.{OperationalControlField}
-use Rattle.uslp_primary_header.specs.declared.PrimaryHeader.{PrimaryHeader}
-use Rattle.uslp_data_field_header.specs.declared.TransferFrameDataFieldHeader.{TransferFrameDataFieldHeader}
-use Rattle.uslp_layout.specs.Layout.{layout, WellFormed}
+use Rattle.uslp_kinds.specs.declared.ManagedParameters.{ManagedParameters}
+use Rattle.uslp_layout.specs.Layout.{Fields, layout, WellFormed}
 use Rattle.uslp_reader.specs.Reader.{frameReading, contentsIn}
 use Rattle.uslp_reader.specs.EndToEnd.{cut}
 use Rattle.uslp_reader.specs.declared.TransferFrame.{TransferFrame}
@@ -20,14 +18,14 @@ use Rattle.uslp_hearing.specs.Hearing.{Naming}
 use Rattle.uslp_hearing.specs.declared.FrameArrival.{FrameArrival}
 use Rattle.uslp_hearing.specs.declared.FrameArrival.the-variants.{New, Repeat, Late}
 
--- a hearing: of a record, octets and a FECF choice, the answer and the record after it
+-- a hearing: of a record, octets and the managed parameters, the answer and the record after it
 abbrev pub Hearer : Type 0
-Hearer = ChannelRecord → List ℕ → Bool → Kept FrameArrival
+Hearer = ChannelRecord → List ℕ → ManagedParameters → Kept FrameArrival
 
 -- a call of the console: it hears octets with a frame at their front, or with frames end to end; it opens or closes a channel
 pub data Call : Type 0 where
-  hears : List ℕ → Bool → Call
-  hears-many : List ℕ → Bool → Call
+  hears : List ℕ → ManagedParameters → Call
+  hears-many : List ℕ → ManagedParameters → Call
   opens : Channel → ℕ → Call
   closes : Channel → Call
 
@@ -61,37 +59,37 @@ module _ (name : Naming) where
 
 module _ (name : Naming) (H : Hearer) (K : Channel) where
   -- what hearing octets hands on for the channel K, and the record after it
-  abbrev pub heard : ChannelRecord → List ℕ → Bool → List Handing × ChannelRecord
-  heard r s fecf = (handing name K s (answerOf (H r s fecf)), recordOf (H r s fecf))
+  abbrev pub heard : ChannelRecord → List ℕ → ManagedParameters → List Handing × ChannelRecord
+  heard r s managed = (handing name K s (answerOf (H r s managed)), recordOf (H r s managed))
 
   -- the same of frames that are heard one after the other
-  unfoldable pub heardAll : ChannelRecord → List (TransferFrame × List ℕ) → Bool → List Handing × ChannelRecord
-  heardAll r [] fecf = ([], r)
-  heardAll r (f ∷ fs) fecf =
-      let q = heard r (f .1) fecf in
-      let rest = heardAll (q .1) fs fecf in
+  unfoldable pub heardAll : ChannelRecord → List (TransferFrame × List ℕ) → ManagedParameters → List Handing × ChannelRecord
+  heardAll r [] managed = ([], r)
+  heardAll r (f ∷ fs) managed =
+      let q = heard r (f .1) managed in
+      let rest = heardAll (q .1) fs managed in
       (q .0 ++ rest .0, rest .1)
 
   -- what a call hands on for the channel K, and the record after it; one of frames end to end stands for hearing each of them
   abbrev pub called : ChannelRecord → Call → List Handing × ChannelRecord
-  called r (hears s fecf) = heard r s fecf
-  called r (hears-many s fecf) = heardAll r (cut fecf s .frames) fecf
+  called r (hears s managed) = heard r s managed
+  called r (hears-many s managed) = heardAll r (cut managed s .frames) managed
   called r (opens k width) = ([], recordOf (opening r k width))
   called r (closes k) = ([], recordOf (closing r k))
 
   -- a hearing does not get TOTAL_FULL for a frame of the channel K
-  abbrev pub NotFull : ChannelRecord → List ℕ → Bool → Type 0
-  NotFull r s fecf =
-      (x : TransferFrame) → frameReading s fecf ≡ done x → isOf name K x ≡ true → answerOf (H r s fecf) ≡ refused 17 [] → ⊥
+  abbrev pub NotFull : ChannelRecord → List ℕ → ManagedParameters → Type 0
+  NotFull r s managed =
+      (x : TransferFrame) → frameReading s managed ≡ done x → isOf name K x ≡ true → answerOf (H r s managed) ≡ refused 17 [] → ⊥
 
-  unfoldable pub NoneFull : ChannelRecord → List (TransferFrame × List ℕ) → Bool → Type 0
-  NoneFull r [] fecf = Unit {0}
-  NoneFull r (f ∷ fs) fecf = NotFull r (f .1) fecf × NoneFull (heard r (f .1) fecf .1) fs fecf
+  unfoldable pub NoneFull : ChannelRecord → List (TransferFrame × List ℕ) → ManagedParameters → Type 0
+  NoneFull r [] managed = Unit {0}
+  NoneFull r (f ∷ fs) managed = NotFull r (f .1) managed × NoneFull (heard r (f .1) managed .1) fs managed
 
   -- no hearing of a call gets it
   abbrev pub Roomy : ChannelRecord → Call → Type 0
-  Roomy r (hears s fecf) = NotFull r s fecf
-  Roomy r (hears-many s fecf) = NoneFull r (cut fecf s .frames) fecf
+  Roomy r (hears s managed) = NotFull r s managed
+  Roomy r (hears-many s managed) = NoneFull r (cut managed s .frames) managed
   Roomy r (opens k width) = Unit {0}
   Roomy r (closes k) = Unit {0}
 
@@ -110,8 +108,8 @@ module _ (name : Naming) (H : Hearer) (K : Channel) where
 
 -- the calls of one frame at the most that a call stands for
 abbrev pub standsFor : Call → List Call
-standsFor (hears s fecf) = hears s fecf ∷ []
-standsFor (hears-many s fecf) = map (λ (f : TransferFrame × List ℕ). hears (f .1) fecf) (cut fecf s .frames)
+standsFor (hears s managed) = hears s managed ∷ []
+standsFor (hears-many s managed) = map (λ (f : TransferFrame × List ℕ). hears (f .1) managed) (cut managed s .frames)
 standsFor (opens k width) = opens k width ∷ []
 standsFor (closes k) = closes k ∷ []
 
@@ -124,40 +122,38 @@ abbrev pub missingFor : Channel → ChannelRecord → ℕ
 missingFor K r = missingOf (stateAt r (find K (r .slots)))
 
 -- the sender of the channel K: a frame of the layout for each place, of this width, numbered consecutively
-pub record Sender (name : Naming) (K : Channel) (width : ℕ) (fecf : Bool) : Type 0 where
+pub record Sender (name : Naming) (K : Channel) (width : ℕ) (managed : ManagedParameters) : Type 0 where
   pub start : ℕ
-  pub header : ℕ → PrimaryHeader
-  pub field : ℕ → TransferFrameDataFieldHeader
-  pub contents : ℕ → List ℕ
-  pub ocf : ℕ → OperationalControlField
+  pub fields : ℕ → Fields
   pub spare : ℕ → ℕ
-  pub well-formed : (p : ℕ) → WellFormed fecf (header p) (field p) (contents p) (ocf p)
+  pub well-formed : (p : ℕ) → WellFormed managed (fields p)
   pub spare-fits : (p : ℕ) → spare p < 4
-  pub of-channel : (p : ℕ) → name (header p) ≡ K
-  pub of-width : (p : ℕ) → header p .«vc_frame_count_len» ≡ width
-  pub numbered : (p : ℕ) → header p .«vc_frame_count» ≡ (start + p) % 256 ^ width
+  pub of-channel : (p : ℕ) → name (fields p .header) ≡ K
+  pub of-width : (p : ℕ) → fields p .header .«vc_frame_count_len» ≡ width
+  pub numbered : (p : ℕ) → fields p .header .«vc_frame_count» ≡ (start + p) % 256 ^ width
 
 -- the octets of the frame at a place
-abbrev pub frameAt : {name : Naming} {K : Channel} {width : ℕ} {fecf : Bool} → Sender name K width fecf → ℕ → List ℕ
-frameAt {fecf = fecf} S p = layout fecf (S .spare p) (S .header p) (S .field p) (S .contents p) (S .ocf p)
+abbrev pub frameAt : {name : Naming} {K : Channel} {width : ℕ} {managed : ManagedParameters} → Sender name K width managed → ℕ → List ℕ
+frameAt {managed = managed} S p = layout managed (S .spare p) (S .fields p)
 
 -- What may happen while the channel K is open: the undamaged frame at a place arrives, perhaps with octets behind it; octets that the
 -- reader refuses; a frame of another channel; a frame of this channel in another width; other channels are opened and closed; this one
 -- is opened again.
 pub data Event (name : Naming) (K : Channel) (width : ℕ) : Type 0 where
   arrives : ℕ → List ℕ → Event name K width
-  damaged : (s : List ℕ) (fecf : Bool) (k : ℕ) (vs : List ℕ) → frameReading s fecf ≡ refused k vs → Event name K width
-  elsewhere : (s : List ℕ) (fecf : Bool) (x : TransferFrame) → frameReading s fecf ≡ done x → isOf name K x ≡ false → Event name K width
-  misfits : (s : List ℕ) (fecf : Bool) (x : TransferFrame) → frameReading s fecf ≡ done x → (x .«primary_header» .«vc_frame_count_len» ≡ width → ⊥)
+  damaged : (s : List ℕ) (managed : ManagedParameters) (k : ℕ) (vs : List ℕ) → frameReading s managed ≡ refused k vs → Event name K width
+  elsewhere : (s : List ℕ) (managed : ManagedParameters) (x : TransferFrame) → frameReading s managed ≡ done x → isOf name K x ≡ false → Event name K width
+  misfits : (s : List ℕ) (managed : ManagedParameters) (x : TransferFrame) → frameReading s managed ≡ done x
+      → (x .«primary_header» .«vc_frame_count_len» ≡ width → ⊥)
       → Event name K width
   opened : (k : Channel) (w : ℕ) → sameChannel k K ≡ false → Event name K width
   closed : (k : Channel) → sameChannel k K ≡ false → Event name K width
   again : ℕ → Event name K width
 
-module _ {name : Naming} {K : Channel} {width : ℕ} {fecf : Bool} (S : Sender name K width fecf) where
+module _ {name : Naming} {K : Channel} {width : ℕ} {managed : ManagedParameters} (S : Sender name K width managed) where
   -- the call that the console makes
   abbrev pub callOf : Event name K width → Call
-  callOf (arrives p behind) = hears (frameAt S p ++ behind) fecf
+  callOf (arrives p behind) = hears (frameAt S p ++ behind) managed
   callOf (damaged s f k vs e) = hears s f
   callOf (elsewhere s f x e o) = hears s f
   callOf (misfits s f x e o) = hears s f
@@ -167,7 +163,7 @@ module _ {name : Naming} {K : Channel} {width : ℕ} {fecf : Bool} (S : Sender n
 
   -- the frame sent at a place, handed on with this gap
   abbrev pub handingAt : ℕ → ℕ → Handing
-  handingAt gap p = (gap, frameOf (S .header p) (S .field p) (S .contents p) (S .ocf p), S .contents p)
+  handingAt gap p = (gap, frameOf (S .fields p), S .fields p .contents)
 
   -- frames handed on at these places, each with the gap to the one before
   unfoldable pub following : ℕ → List ℕ → List Handing

@@ -5,3 +5,4 @@ pub mod Console
 pub mod Restarts
 pub mod Updated
 pub mod Blocks
+pub mod Live

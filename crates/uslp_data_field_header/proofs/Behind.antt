@@ -56,7 +56,7 @@ module _ (s t : List ℕ) where
       length-row s t 1 1 _ _ refl
       (λ one.
       let first = first-front (ltb-false _ _ one) in
-      let rule : ruleIn (s ++ t) ≡ ruleIn s = ap (λ (l : List octets.Field). ruleOf (named "construction rule" l)) first in
+      let rule : ruleIn (s ++ t) ≡ ruleIn s = ap (λ (l : List octets.BitField). ruleOf (named "construction rule" l)) first in
       let number : numberIn (s ++ t) ≡ numberIn s = ap (named "protocol id") first in
       let fixed : fixedLength (ruleIn (s ++ t)) ≡ fixedLength (ruleIn s) = ap fixedLength rule in
       short-row _ _ _ _ _ _ _ _ _

@@ -7,7 +7,7 @@ use lib.ListN.{length, drop}
 use lib.Dec.{ltb}
 use Rattle.uslp_octets.specs.Octets.{pack, unpack, named, word}
 use Rattle.uslp_octets.specs.Octets as octets
-use Rattle.uslp_kinds.specs.Outcome.{Outcome, done, refused, andThen, Written, written, firstOf}
+use Rattle.uslp_kinds.specs.Outcome.{Outcome, done, refused, andThen, Written, onlyIfDone, firstOf}
 use Rattle.uslp_kinds.specs.Kinds.{ruleNumber, ruleOf, fixedLength, protocolNumber, protocolOf}
 use Rattle.uslp_kinds.specs.Answers.{refusal}
 use Rattle.uslp_kinds.specs.declared.ConstructionRule.{ConstructionRule}
@@ -25,14 +25,14 @@ paperField (field-answer.Done f) = done f
 paperField (field-answer.Refused r) = refusal r
 
 -- the fields of the first octet from the first bit on, each with its bits; then two octets of pointer, or none
-abbrev pub firstTable : ConstructionRule → UslpProtocolId → List octets.Field
+abbrev pub firstTable : ConstructionRule → UslpProtocolId → List octets.BitField
 firstTable rule id = ("construction rule", 3, ruleNumber rule) ∷ ("protocol id", 5, protocolNumber id) ∷ []
 
-abbrev pub pointerRow : FhpOrLvo → List octets.Field
+abbrev pub pointerRow : FhpOrLvo → List octets.BitField
 pointerRow Absent = []
 pointerRow (Present p) = ("pointer", 16, p) ∷ []
 
-abbrev pub fieldTable : TransferFrameDataFieldHeader → List octets.Field
+abbrev pub fieldTable : TransferFrameDataFieldHeader → List octets.BitField
 fieldTable f = firstTable (f .«construction_rule») (f .«uslp_protocol_id») ++ pointerRow (f .«fhp_or_lvo»)
 
 -- rules 0 to 2 have the pointer
@@ -62,7 +62,7 @@ unfoldable pub fieldChecking : TransferFrameDataFieldHeader → Outcome Transfer
 fieldChecking f = firstOf (fieldChecks f) (done f)
 
 -- the rule and the number of the protocol id in the first octet, and the pointer behind it
-abbrev pub firstIn : List ℕ → List octets.Field
+abbrev pub firstIn : List ℕ → List octets.BitField
 firstIn s = unpack (firstTable NoSegmentation Idle) s
 
 abbrev pub ruleIn : List ℕ → ConstructionRule
@@ -92,7 +92,7 @@ fieldReading s =
 -- writing one over octets s: 9, 2; the octets past it stay
 unfoldable pub fieldWriting : TransferFrameDataFieldHeader → List ℕ → Written ℕ
 fieldWriting f s =
-    written
+    onlyIfDone
     (firstOf (fieldChecks f ++ (ltb (length s) (lenField f), refused 2 (length s ∷ lenField f ∷ [])) ∷ []) (done (lenField f)))
     (pack (fieldTable f) ++ drop (lenField f) s)
     s

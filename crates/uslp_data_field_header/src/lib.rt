@@ -6,7 +6,7 @@ use uslp_kinds::ProtocolIdAnswer;
 use uslp_kinds::Refusal;
 use uslp_kinds::UslpProtocolId;
 use uslp_octets::be_u16;
-use uslp_octets::put_number;
+use uslp_octets::put_be_number;
 ghost use mathlib.Core.Path.{_≡_};
 ghost use Rattle.uslp_kinds.specs.Outcome.{done, leaving};
 ghost use Rattle.uslp_kinds.specs.Answers.{paperLength};
@@ -151,7 +151,7 @@ fn put_header(header: TransferFrameDataFieldHeader, buf: &mut [u8]) -> LengthAns
     }
     buf[0] = rule.number() * 32 + id.number();
     if let FhpOrLvo::Present(value) = pointer {
-        put_number(value as u64, &mut buf[1..3]);
+        put_be_number(value as u64, &mut buf[1..3]);
     }
     LengthAnswer::Done(expected)
 }

@@ -1,6 +1,6 @@
--- Demand 1 of the calls that write: a refusal leaves every octet of the lent buffer as it was, and of restoring: it leaves the record. And what
--- the intake writes where it waits or stops: what it took, and nothing else.
-use mathlib.Core.Path.{_≡_, sym}
+-- Demand 1 of the calls that write: a refusal leaves every octet of the lent buffer as it was; and of those that hand a record back: it leaves the
+-- record. And what the intake writes where it waits or stops: what it took, and nothing else.
+use mathlib.Core.Path.{_≡_, sym, ap, _∙_}
 use mathlib.Core.Bool.{Bool, true, cond}
 use mathlib.Core.List.{List, [], _∷_, _++_}
 use Prim.Native.Nat.{ℕ, _+_, _-_, min}
@@ -10,7 +10,9 @@ use contract.Lifetimes.{Lfts}
 use denote.Ref.{RefT, now}
 use Rattle.uslp_octets.specs.Octets.{pack, overlaid}
 use Rattle.uslp_kinds.specs.Outcome.{Outcome, done, refused, andThen, firstOf}
+use Rattle.uslp_kinds.specs.Answers.{refusal}
 use Rattle.uslp_kinds.proofs.Outcomes.{not-done, refused-keeps}
+use Rattle.uslp_kinds.specs.declared.ManagedParameters.{ManagedParameters}
 use Rattle.uslp_kinds.specs.declared.Refusal.{Refusal}
 use Rattle.uslp_kinds.specs.declared.LengthAnswer.the-variants.{Refused}
 use Rattle.uslp_primary_header.specs.Header.{table, lenHeader, headerChecks, headerWriting, countSetting, lengthSetting}
@@ -24,7 +26,20 @@ use Rattle.uslp_writer.specs.declared.TransferFrameCreator.{TransferFrameCreato
 use Rattle.uslp_writer.specs.declared.TransferFrameCreatorWithReservedData.{TransferFrameCreatorWithReservedData}
 use Rattle.uslp_writer.specs.declared.ReservedAnswer.the-variants as reserved-answer
 use Rattle.uslp_kinds.specs.declared.DoneAnswer.the-variants as done-answer
+use Rattle.uslp_reader.specs.Reader.{frameReading}
+use Rattle.uslp_reader.specs.declared.TransferFrame.{TransferFrame}
+use Rattle.uslp_record.specs.Record.{Kept, keeping}
+use Rattle.uslp_record.specs.Judging.{judging}
+use Rattle.uslp_record.specs.declared.Channel.{Channel}
 use Rattle.uslp_record.specs.declared.ChannelRecord.{ChannelRecord}
+use Rattle.uslp_record.specs.declared.ArrivalAnswer.the-variants as arrival-answer
+use Rattle.uslp_record.proofs.Back.{keeping-one, applied-keeps}
+use Rattle.uslp_record.proofs.Ways.{opening-ways, closing-ways}
+use Rattle.uslp_hearing.specs.Hearing.{channelOf, judgedBy}
+use Rattle.uslp_hearing.specs.declared.HearAnswer.the-variants as hear-answer
+use Rattle.uslp_end_to_end.specs.Many.{KeptMany}
+use Rattle.uslp_end_to_end.specs.declared.ManyHearing.{ManyHearing}
+use Rattle.uslp_end_to_end.proofs.Stops.{refused-first}
 use Rattle.uslp_form.specs.declared.Form.{Form}
 use Rattle.uslp_form.proofs.Claims.{saving-kept}
 use Rattle.uslp_form.proofs.Converted.{converting-kept}
@@ -41,6 +56,9 @@ use Rattle.uslp_demands.proofs.Facts.{implies}
 use Rattle.uslp_demands.proofs.OfPrimaryHeader as of-header
 use Rattle.uslp_demands.proofs.OfDataFieldHeader as of-field
 use Rattle.uslp_demands.proofs.OfWriter.{fn-write-to-slice, fn-new, fn-fill, fn-finish}
+use Rattle.uslp_demands.proofs.OfRecord.{fn-open-channel, fn-close-channel, fn-hear-count}
+use Rattle.uslp_demands.proofs.OfHearing.{fn-hear, fn-hear-frame}
+use Rattle.uslp_demands.proofs.OfMany.{fn-hear-many}
 use Rattle.uslp_demands.proofs.OfIntake.{Takes}
 use Rattle.uslp_demands.proofs.OfSaved.{fn-save, fn-restore}
 use Rattle.uslp_demands.proofs.OfConverting.{fn-convert}
@@ -116,23 +134,56 @@ module _ (r : Refusal) (s : RefT (List ℕ)) (left : List ℕ) where
   convert-kept κs f g octets e = converting-kept f g (now octets) (now s) e
 
 -- the intake's own refusals
-pub take-block-kept : (r : Refusal) (s left : List ℕ) (held : ℕ) (block : List ℕ) (fecf : Bool) → Takes s held block fecf (intake-answer.Refused r) left
+pub take-block-kept : (r : Refusal) (s left : List ℕ) (held : ℕ) (block : List ℕ) (managed : ManagedParameters)
+    → Takes s held block managed (intake-answer.Refused r) left
     → left ≡ s
-take-block-kept r s left held block fecf e = intake-keeps fecf s held block (sym e)
+take-block-kept r s left held block managed e = intake-keeps managed s held block (sym e)
 
 -- a wait and a stop hold what was held and then what was taken, and the rest of the buffer stays
-pub wait-kept : (s left : List ℕ) (held : ℕ) (block : List ℕ) (fecf : Bool) (n m : ℕ) → Takes s held block fecf (intake-answer.Waiting n m) left
+pub wait-kept : (s left : List ℕ) (held : ℕ) (block : List ℕ) (managed : ManagedParameters) (n m : ℕ)
+    → Takes s held block managed (intake-answer.Waiting n m) left
     → (m ≡ held + n) × (left ≡ take held s ++ take n block ++ drop (held + n) s)
-wait-kept s left held block fecf n m e = (wait-holds fecf s held block left (sym e), writes-taken fecf s held block left (sym e))
+wait-kept s left held block managed n m e = (wait-holds managed s held block left (sym e), writes-taken managed s held block left (sym e))
 
-pub stop-kept : (s left : List ℕ) (held : ℕ) (block : List ℕ) (fecf : Bool) (n m : ℕ) (r : Refusal) → Takes s held block fecf (intake-answer.Stopped n m r) left
+pub stop-kept : (s left : List ℕ) (held : ℕ) (block : List ℕ) (managed : ManagedParameters) (n m : ℕ) (r : Refusal)
+    → Takes s held block managed (intake-answer.Stopped n m r) left
     → (m ≡ held + n) × (left ≡ take held s ++ take n block ++ drop (held + n) s)
-stop-kept s left held block fecf n m r e = (stop-holds fecf s held block left (sym e), writes-taken fecf s held block left (sym e))
+stop-kept s left held block managed n m r e = (stop-holds managed s held block left (sym e), writes-taken managed s held block left (sym e))
 
 pub restore-kept : (r : Refusal) (κs : Lfts 1) (q left : ChannelRecord) (f : Form) (s : RefT (List ℕ))
     → Allows fn-restore κs (q, (f, (s, tt))) (record { answer = done-answer.Refused r; next = left }, (tt, (tt, (tt, tt))))
     → left ≡ q
 restore-kept r κs q left f s e = sym (restores-refused f e)
+
+-- the calls on the record: a refusal leaves it
+module _ (r : Refusal) (q left : ChannelRecord) where
+  pub open-kept : (k : Channel) (w : ℕ)
+      → Allows fn-open-channel tt (q, (k, (w, tt))) (record { answer = done-answer.Refused r; next = left }, (tt, (tt, (tt, tt)))) → left ≡ q
+  open-kept k w e =
+      opening-ways q k (λ (v : Kept (Unit {0})). v ≡ keeping (refusal r) left → left ≡ q) w (λ j vs f. sym (keeping-one f .1))
+      (λ o f. absurd (not-done (sym (keeping-one f .0)))) (sym e)
+
+  pub close-kept : (k : Channel) → Allows fn-close-channel tt (q, (k, tt)) (record { answer = done-answer.Refused r; next = left }, (tt, (tt, tt))) → left ≡ q
+  close-kept k e =
+      closing-ways q k (λ (v : Kept (Unit {0})). v ≡ keeping (refusal r) left → left ≡ q) (λ j vs f. sym (keeping-one f .1))
+      (λ o f. absurd (not-done (sym (keeping-one f .0)))) (sym e)
+
+  pub hear-count-kept : (k : Channel) (w n : ℕ)
+      → Allows fn-hear-count tt (q, (k, (w, (n, tt)))) (record { answer = arrival-answer.Refused r; next = left }, (tt, (tt, (tt, (tt, tt))))) → left ≡ q
+  hear-count-kept k w n e = applied-keeps q (judging q k w n) (sym e)
+
+  pub hear-frame-kept : (x : TransferFrame)
+      → Allows fn-hear-frame tt (q, (x, tt)) (record { answer = hear-answer.Refused r; next = left }, (tt, (tt, tt))) → left ≡ q
+  hear-frame-kept x e = applied-keeps q (judgedBy channelOf q x) (sym e)
+
+  pub hear-kept : (κs : Lfts 1) (s : RefT (List ℕ)) (managed : ManagedParameters)
+      → Allows fn-hear κs (q, (s, (managed, tt))) (record { answer = hear-answer.Refused r; next = left }, (tt, (tt, (tt, tt)))) → left ≡ q
+  hear-kept κs s managed e = applied-keeps q (andThen (frameReading (now s) managed) (judgedBy channelOf q)) (sym e)
+
+-- the call for many frames is not refused itself; where the reader refuses the first octets, and so no frame is heard, it leaves the record
+pub hear-many-kept : (κs : Lfts 1) (q : ChannelRecord) (s : RefT (List ℕ)) (managed : ManagedParameters) (x : ManyHearing) {k : ℕ} {vs : List ℕ}
+    → Allows fn-hear-many κs (q, (s, (managed, tt))) (x, (tt, (tt, (tt, tt)))) → frameReading (now s) managed ≡ refused k vs → x .next ≡ q
+hear-many-kept κs q s managed x e h = ap (λ (m : KeptMany). m .next) e ∙ refused-first managed (now s) q h .2
 
 -- a setter over a lent header leaves what its decision says: on a refusal the header that it found
 setting-kept : (h left : PrimaryHeader) (o : Outcome PrimaryHeader) {k : ℕ} {vs : List ℕ} → left ≡ headerLeft h o → refused k vs ≡ headerOff o → left ≡ h

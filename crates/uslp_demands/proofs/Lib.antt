@@ -23,3 +23,4 @@ pub mod Demand1
 pub mod Wrong
 pub mod OfText
 pub mod OfListing
+pub mod Together

@@ -17,7 +17,7 @@ use Rattle.uslp_record.specs.declared.ChannelRecord.{ChannelRecord}
 use Rattle.uslp_form.specs.declared.Form.{Form}
 use Rattle.uslp_form.specs.declared.Form.the-variants.{One, Two}
 use Rattle.uslp_form.specs.Form.{form, Ascending, GoodForm}
-use Rattle.uslp_form.specs.Said.{flagLong}
+use Rattle.uslp_form.specs.FromRow.{flagLong}
 use Rattle.uslp_form.specs.Saved.{Converting}
 use Rattle.uslp_form.proofs.Converted as claims
 use Rattle.uslp_form.proofs.Exactly as exactly
@@ -47,8 +47,8 @@ pub record Ascends (g : Form) (s : List ℕ) : Type 0 where
   pub unheard : List SlotState
   pub heard : List SlotState
   pub is : s ≡ form g unheard heard
-  pub first : Ascending g unheard
-  pub second : Ascending g heard
+  pub unheard-ascend : Ascending g unheard
+  pub heard-ascend : Ascending g heard
 
 -- any program that keeps the promise of `convert`
 module _ (c : Program fn-convert) (keeps : Keeps fn-convert c) where
@@ -111,7 +111,7 @@ module _ (c : Program fn-convert) (keeps : Keeps fn-convert c) where
   no-other-sort f g s b e =
       let h = done-so f g s b e in
       let k = claims.good-wrote h in
-      record { unheard = claims.told h .unheard; heard = claims.told h .heard; is = k .octets; first = k .first; second = k .second }
+      record { unheard = claims.told h .unheard; heard = claims.told h .heard; is = k .octets; unheard-ascend = k .unheard-ascend; heard-ascend = k .heard-ascend }
 
   -- a flag other than 0 or 1 taken: 18, of whatever entry, in whichever form it is to be written
   pub no-flag-taken : (f g : Form) (s b : List ℕ) (i : ℕ) → i < firstCount f s + secondCount f s

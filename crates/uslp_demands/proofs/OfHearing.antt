@@ -1,18 +1,20 @@
 -- The promises of `uslp_hearing` settle each call. `handed_on` hands back a part of the lent octets: what it shows is settled.
 use mathlib.Core.Path.{_≡_, refl, sym, ap, _∙_}
-use mathlib.Core.Bool.{false}
 use mathlib.Core.List.{List, [], _∷_}
 use Prim.Native.Nat.{ℕ}
 use native.Mathlib.Omega.{arith}
 use denote.Ref.{RefT, now}
+use Rattle.uslp_kinds.specs.Managed.{noFecf}
 use Rattle.uslp_kinds.specs.Kinds.{bypassNumber}
 use Rattle.uslp_kinds.specs.declared.BypassSequenceControlFlag.the-variants.{SequenceControlledQoS, ExpeditedQoS}
 use Rattle.uslp_kinds.proofs.Back.{back, one-to-one}
-use Rattle.uslp_kinds.proofs.Outcomes.{done-one}
-use Rattle.uslp_primary_header.specs.Header.{headerReading}
+use Rattle.uslp_kinds.proofs.Outcomes.{not-done}
+use Rattle.uslp_kinds.specs.declared.OperationalControlField.the-variants.{Absent}
+use Rattle.uslp_primary_header.specs.Header.{withCount, headerReading}
 use Rattle.uslp_primary_header.specs.declared.PrimaryHeader.{PrimaryHeader}
 use Rattle.uslp_data_field_header.specs.Field.{fieldReading}
 use Rattle.uslp_reader.specs.Reader.{frameReading}
+use Rattle.uslp_reader.specs.declared.TransferFrame.{TransferFrame}
 use Rattle.uslp_record.specs.Slots.{find, stateAt, put, emptyRecord}
 use Rattle.uslp_record.specs.Record.{keeping}
 use Rattle.uslp_record.specs.Judging.{judging}
@@ -20,26 +22,21 @@ use Rattle.uslp_record.specs.declared.Channel.{Channel}
 use Rattle.uslp_record.specs.declared.ChannelRecord.{ChannelRecord}
 use Rattle.uslp_record.specs.declared.SlotState.{SlotState}
 use Rattle.uslp_record.specs.declared.SlotState.the-variants.{Closed, Opened, Heard}
-use Rattle.uslp_record.specs.declared.Change.{Change}
 use Rattle.uslp_record.proofs.Back.{keeping-one}
-use Rattle.uslp_hearing.specs.Hearing.{paperHear, paperJudge}
-use Rattle.uslp_hearing.specs.declared.FrameArrival.the-variants.{New, Repeat, Late}
+use Rattle.uslp_hearing.specs.Hearing.{paperHear}
+use Rattle.uslp_hearing.specs.declared.FrameArrival.the-variants.{New, Repeat}
 use Rattle.uslp_hearing.specs.declared.FrameArrival.{FrameArrival}
 use Rattle.uslp_hearing.specs.declared.HearAnswer.the-variants.{Done, Refused}
 use Rattle.uslp_hearing.specs.declared.Hearing.{Hearing}
-use Rattle.uslp_hearing.specs.declared.JudgeAnswer.the-variants as judge-answer
-use Rattle.uslp_hearing.proofs.Heard.{hear-back, judge-back}
+use Rattle.uslp_hearing.proofs.Heard.{hear-back}
 use Rattle.uslp_hearing.proofs as hearing
 use Rattle.uslp_demands.specs.Promise.{Function, function, at, Allows, Settles, Shows}
-use Rattle.uslp_roundtrip.specs.Samples.{octetsF, some, readF}
+use Rattle.uslp_roundtrip.specs.Samples.{octetsF, some, whole, readF}
 use Rattle.uslp_demands.proofs.Alike.{alike}
 
 -- the functions, each with its promise
 abbrev pub fn-hear : Function
 fn-hear = function hearing.hear.Kinds.ps hearing.hear.Kinds.r hearing.hear.Reads.Pre hearing.hear.Reads.Learnt
-
-abbrev pub fn-judge : Function
-fn-judge = function hearing.judge.Kinds.ps hearing.judge.Kinds.r hearing.judge.Reads.Pre hearing.judge.Reads.Learnt
 
 abbrev pub fn-hear-frame : Function
 fn-hear-frame = function hearing.hear_frame.Kinds.ps hearing.hear_frame.Kinds.r hearing.hear_frame.Reads.Pre hearing.hear_frame.Reads.Learnt
@@ -59,11 +56,6 @@ handedIn Closed = 0
 handedIn (Opened k w) = 0
 handedIn (Heard k w t) = t .«handed_on»
 
-abbrev gapOf : FrameArrival → ℕ
-gapOf (New gap x) = gap
-gapOf Repeat = 0
-gapOf Late = 0
-
 abbrev handedFirst : ChannelRecord → ℕ
 handedFirst r = handedIn (stateAt r 0)
 
@@ -79,22 +71,12 @@ hear-settles = record { total = λ κs a. tt; same = λ κs a x y s t. alike (he
 pub hear-frame-settles : Settles fn-hear-frame
 hear-frame-settles = record { total = λ κs a. tt; same = λ κs a x y s t. alike (hearing-one {x = x .0} {y = y .0} (s ∙ sym t)) refl }
 
-pub judge-settles : Settles fn-judge
-judge-settles = record {
-  total = λ κs a. tt;
-  same = λ κs a x y s t.
-      alike
-      (one-to-one paperJudge (back (λ (z : FrameArrival × Change). judge-answer.Done (z .0) (z .1)) judge-answer.Refused) judge-back
-      {x = x .0} {y = y .0} (s ∙ sym t))
-      refl;
-}
-
 -- hears a channel that is not open; says NEW and counts nothing
-pub hear-lax : Allows fn-hear ([], tt) (emptyRecord, (at octetsF, (false, tt))) (record { answer = Done Repeat; next = emptyRecord }, (tt, (tt, (tt, tt)))) → ⊥
+pub hear-lax : Allows fn-hear ([], tt) (emptyRecord, (at octetsF, (noFecf, tt))) (record { answer = Done Repeat; next = emptyRecord }, (tt, (tt, (tt, tt)))) → ⊥
 unfolding frameReading headerReading fieldReading judging find
 hear-lax e = let z : _≡_ {A = ℕ} 0 1 = cc in omega arith
 
-pub hear-still : Allows fn-hear ([], tt) (opened, (at octetsF, (false, tt))) (record { answer = Done (New 0 readF); next = opened }, (tt, (tt, (tt, tt)))) → ⊥
+pub hear-still : Allows fn-hear ([], tt) (opened, (at octetsF, (noFecf, tt))) (record { answer = Done (New 0 readF); next = opened }, (tt, (tt, (tt, tt)))) → ⊥
 unfolding frameReading headerReading fieldReading judging find
 hear-still e = let z : _≡_ {A = ℕ} 0 1 = ap (λ (r : ChannelRecord). handedFirst r) (keeping-one e .1) in omega arith
 
@@ -107,14 +89,21 @@ pub hear-frame-still : Allows fn-hear-frame tt (opened, (readF, tt)) (record { a
 unfolding judging find
 hear-frame-still e = let z : _≡_ {A = ℕ} 0 1 = ap (λ (r : ChannelRecord). handedFirst r) (keeping-one e .1) in omega arith
 
--- judges a channel that is not open; hands a gap on that is not there
-pub judge-lax : (c : Change) → Allows fn-judge ([], tt) (emptyRecord, (at octetsF, (false, tt))) (judge-answer.Done Repeat c, (tt, (tt, (tt, tt)))) → ⊥
-unfolding frameReading headerReading fieldReading judging find
-judge-lax c e = let z : _≡_ {A = ℕ} 0 1 = cc in omega arith
+-- a made-up frame whose count does not fit its width
+abbrev unfit : TransferFrame
+unfit =
+    record {
+      «primary_header» = withCount 1 300 some;
+      «data_field_header» = whole;
+      «operational_control_field» = Absent;
+      «data_start» = 9;
+      «data_len» = 2;
+    }
 
-pub judge-gap : (c : Change) → Allows fn-judge ([], tt) (opened, (at octetsF, (false, tt))) (judge-answer.Done (New 1 readF) c, (tt, (tt, (tt, tt)))) → ⊥
-unfolding frameReading headerReading fieldReading judging find
-judge-gap c e = let z : _≡_ {A = ℕ} 1 0 = ap (λ (x : FrameArrival × Change). gapOf (x .0)) (done-one e) in omega arith
+pub hear-frame-unfit : (a : FrameArrival) (q : ChannelRecord)
+    → Allows fn-hear-frame tt (opened, (unfit, tt)) (record { answer = Done a; next = q }, (tt, (tt, tt))) → ⊥
+unfolding judging find
+hear-frame-unfit a q e = not-done (sym (keeping-one e .0))
 
 pub handed-on-shows : Shows fn-handed-on (λ κs a r. r)
 handed-on-shows = record { total = λ κs a. tt; same = λ κs a x y s t. (s .lies ∙ sym (t .lies), s .shows ∙ sym (t .shows)) }

@@ -1,13 +1,15 @@
 -- The promises of `uslp_intake` settle each call, and shut out wrong intakes, each of every buffer, held number, block and FECF choice.
 use mathlib.Core.Path.{_≡_, refl, ap, sym, _∙_}
-use mathlib.Core.Bool.{Bool, true, false}
+use mathlib.Core.Bool.{true, false}
 use mathlib.Core.List.{List, [], _∷_, _++_}
 use Prim.Native.Nat.{ℕ, _+_, _≤_}
 use native.Mathlib.Omega.{arith}
 use lib.ListN.{length, take}
 use Rattle.uslp_octets.specs.Octets.{AreOctets}
+use Rattle.uslp_kinds.specs.Managed.{noFecf}
 use Rattle.uslp_kinds.specs.Outcome.{Outcome, done, refused, leaving}
 use Rattle.uslp_kinds.specs.Answers.{short}
+use Rattle.uslp_kinds.specs.declared.ManagedParameters.{ManagedParameters}
 use Rattle.uslp_kinds.specs.declared.Refusal.the-variants.{Truncated}
 use Rattle.uslp_kinds.proofs.Back.{refusalOf, refusal-back, one-to-one, leaving-one}
 use Rattle.uslp_primary_header.specs.Header.{lenFrame, headerReading}
@@ -62,37 +64,38 @@ take-block-settles = record {
 }
 
 -- the promise allows this answer, and these octets of the holding buffer after it
-abbrev pub Takes : List ℕ → ℕ → List ℕ → Bool → IntakeAnswer → List ℕ → Type 0
-Takes s held block fecf a left = Allows fn-take-block ([], ([], tt)) (at s, (held, (at block, (fecf, tt)))) (a, (left, (tt, (tt, (tt, tt)))))
+abbrev pub Takes : List ℕ → ℕ → List ℕ → ManagedParameters → IntakeAnswer → List ℕ → Type 0
+Takes s held block managed a left = Allows fn-take-block ([], ([], tt)) (at s, (held, (at block, (managed, tt)))) (a, (left, (tt, (tt, (tt, tt)))))
 
-module _ (s : List ℕ) (held : ℕ) (block : List ℕ) (fecf : Bool) (a : IntakeAnswer) (left : List ℕ) (e : Takes s held block fecf a left) where
+module _ (s : List ℕ) (held : ℕ) (block : List ℕ) (managed : ManagedParameters) (a : IntakeAnswer) (left : List ℕ) (e : Takes s held block managed a left) where
   -- taking the whole block: where octets of its front decide, no more than these are taken
-  pub take-block-whole : (m : ℕ) → short (frameReading (take held s ++ take m block) fecf) ≡ false → takenBy (paperIntake a) ≤ m
-  take-block-whole = takes-least fecf s held block left (paperIntake a) (sym e)
+  pub take-block-whole : (m : ℕ) → short (frameReading (take held s ++ take m block) managed) ≡ false → takenBy (paperIntake a) ≤ m
+  take-block-whole = takes-least managed s held block left (paperIntake a) (sym e)
 
   -- reading on after a stop: where what is held decides, nothing is taken and nothing written
-  pub take-block-on : short (frameReading (take held s) fecf) ≡ false → (takenBy (paperIntake a) ≡ 0) × (left ≡ s)
-  take-block-on = takes-none fecf s held block left (paperIntake a) (sym e)
+  pub take-block-on : short (frameReading (take held s) managed) ≡ false → (takenBy (paperIntake a) ≡ 0) × (left ≡ s)
+  take-block-on = takes-none managed s held block left (paperIntake a) (sym e)
 
   -- giving a frame out one octet late, or early
-  pub take-block-late : cutting.Waiting fecf s held → AreOctets block → (n : ℕ) (x : TransferFrame) → a ≡ Frame n x → held + n ≡ lenFrame (x .«primary_header»)
-  take-block-late w oct n x f = frame-whole fecf s held block left w oct (sym e ∙ ap (λ (b : IntakeAnswer). leaving (paperIntake b) left) f) .0
+  pub take-block-late : cutting.NoFrameYet managed s held → AreOctets block → (n : ℕ) (x : TransferFrame) → a ≡ Frame n x
+      → held + n ≡ lenFrame (x .«primary_header»)
+  take-block-late w oct n x f = frame-whole managed s held block left w oct (sym e ∙ ap (λ (b : IntakeAnswer). leaving (paperIntake b) left) f) .0
 
   -- waiting on what the reader refuses otherwise, or gives out
-  pub take-block-waits : (n m : ℕ) → a ≡ Waiting n m → short (frameReading (take m left) fecf) ≡ true
-  take-block-waits n m f = wait-short fecf s held block left (sym e ∙ ap (λ (b : IntakeAnswer). leaving (paperIntake b) left) f)
+  pub take-block-waits : (n m : ℕ) → a ≡ Waiting n m → short (frameReading (take m left) managed) ≡ true
+  take-block-waits n m f = wait-short managed s held block left (sym e ∙ ap (λ (b : IntakeAnswer). leaving (paperIntake b) left) f)
 
 -- so of frame F with an octet behind it, eleven octets at the most are taken, whatever the buffer
-pub take-block-greedy : (s : List ℕ) (a : IntakeAnswer) (left : List ℕ) → Takes s 0 (octetsF ++ 0 ∷ []) false a left → takenBy (paperIntake a) ≡ 12 → ⊥
+pub take-block-greedy : (s : List ℕ) (a : IntakeAnswer) (left : List ℕ) → Takes s 0 (octetsF ++ 0 ∷ []) noFecf a left → takenBy (paperIntake a) ≡ 12 → ⊥
 unfolding frameReading headerReading fieldReading
-take-block-greedy s a left e h = omega (arith, take-block-whole s 0 (octetsF ++ 0 ∷ []) false a left e 11 refl, h)
+take-block-greedy s a left e h = omega (arith, take-block-whole s 0 (octetsF ++ 0 ∷ []) noFecf a left e 11 refl, h)
 
 -- dropping what was held at a wait is shut out by `wait-kept` (Demand1.antt). Waiting on a truncated frame of four octets: it stops, whatever the buffer
-pub take-block-truncated : (s : List ℕ) → 65536 ≤ length s → (fecf : Bool) (a : IntakeAnswer) (left : List ℕ)
-    → Takes s 0 (0xC1 ∷ 0x23 ∷ 0x48 ∷ 0xA7 ∷ []) fecf a left → a ≡ Stopped 4 4 Truncated
+pub take-block-truncated : (s : List ℕ) → 65536 ≤ length s → (managed : ManagedParameters) (a : IntakeAnswer) (left : List ℕ)
+    → Takes s 0 (0xC1 ∷ 0x23 ∷ 0x48 ∷ 0xA7 ∷ []) managed a left → a ≡ Stopped 4 4 Truncated
 unfolding taking frameReading headerReading
-take-block-truncated s room fecf a left e =
-    one-to-one paperIntake backIntake intake-back (leaving-one (e ∙ intaking-done fecf s 0 (0xC1 ∷ 0x23 ∷ 0x48 ∷ 0xA7 ∷ []) room (omega arith)) .0)
+take-block-truncated s room managed a left e =
+    one-to-one paperIntake backIntake intake-back (leaving-one (e ∙ intaking-done managed s 0 (0xC1 ∷ 0x23 ∷ 0x48 ∷ 0xA7 ∷ []) room (omega arith)) .0)
 
 pub taken-settles : Settles fn-taken
 taken-settles = record { total = λ κs a. tt; same = λ κs a x y s t. alike (s ∙ sym t) refl }

@@ -1,8 +1,12 @@
--- The promises of `uslp_kinds` settle each call, and shut out two tempting wrong answers of each function.
-use mathlib.Core.Path.{_≡_, refl, sym, _∙_}
+-- The promises of `uslp_kinds` settle each call, and shut out two tempting wrong answers of each function. `written` hands back a part of the
+-- lent octets: what it shows is settled.
+use mathlib.Core.Path.{_≡_, refl, sym, ap, _∙_}
+use mathlib.Core.List.{List, [], _∷_}
 use mathlib.Core.Bool.{true, false}
 use Prim.Native.Nat.{ℕ}
 use native.Mathlib.Omega.{arith}
+use lib.ListN.{length}
+use denote.Ref.{RefT, now}
 use Rattle.uslp_kinds.specs.Answers.{paperProtocol}
 use Rattle.uslp_kinds.proofs.Back.{back, one-to-one, protocol-back}
 use Rattle.uslp_kinds.specs.declared.SourceOrDestField.the-variants.{Source, Dest}
@@ -11,12 +15,16 @@ use Rattle.uslp_kinds.specs.declared.ProtocolControlCommandFlag.the-variants.{T
 use Rattle.uslp_kinds.specs.declared.ConstructionRule.the-variants.{PacketSpanningMultipleFrames, OctetStream, NoSegmentation}
 use Rattle.uslp_kinds.specs.declared.UslpProtocolId.the-variants.{UserDefinedOctetStream, Idle}
 use Rattle.uslp_kinds.specs.declared.Refusal.the-variants.{ShortSource, ShortTarget, BadProtocol}
+use Rattle.uslp_kinds.specs.declared.LengthAnswer.the-variants as length-answer
 use Rattle.uslp_kinds.specs.declared.ProtocolIdAnswer.the-variants.{Done, Refused}
 use Rattle.uslp_kinds.proofs as kinds
-use Rattle.uslp_demands.specs.Promise.{Function, function, Allows, Settles}
+use Rattle.uslp_demands.specs.Promise.{Function, function, at, Allows, Settles, Shows}
 use Rattle.uslp_demands.proofs.Alike.{alike}
 
 -- the functions, each with its promise
+abbrev fn-written : Function
+fn-written = function kinds.written.Kinds.ps kinds.written.Kinds.r kinds.written.Reads.Pre kinds.written.Reads.Learnt
+
 abbrev fn-from-number : Function
 fn-from-number =
     function kinds.SourceOrDestField.from_number.Kinds.ps kinds.SourceOrDestField.from_number.Kinds.r
@@ -223,3 +231,14 @@ refusal-lacking-all e = omega arith
 
 pub refusal-lacking-target : Allows fn-refusal-lacking tt (ShortTarget 3 4, tt) (1, (tt, tt)) → ⊥
 refusal-lacking-target e = omega arith
+
+pub written-shows : Shows fn-written (λ κs a r. r)
+written-shows = record { total = λ κs a. tt; same = λ κs a x y s t. (s .lies ∙ sym (t .lies), s .shows ∙ sym (t .shows)) }
+
+-- shows the whole buffer; shows octets on a refusal
+pub written-whole : (r : RefT (List ℕ)) → now r ≡ 1 ∷ 2 ∷ [] → Allows fn-written ([], tt) (length-answer.Done 1, (at (1 ∷ 2 ∷ []), tt)) (r, (tt, (tt, tt))) → ⊥
+written-whole r h e = let z : _≡_ {A = ℕ} 2 1 = ap length (sym h ∙ e .shows) in omega arith
+
+pub written-refused : (r : RefT (List ℕ)) → now r ≡ 1 ∷ 2 ∷ []
+    → Allows fn-written ([], tt) (length-answer.Refused (ShortTarget 2 3), (at (1 ∷ 2 ∷ []), tt)) (r, (tt, (tt, tt))) → ⊥
+written-refused r h e = let z : _≡_ {A = ℕ} 2 0 = ap length (sym h ∙ e .shows) in omega arith

@@ -2,6 +2,7 @@
 use mathlib.Core.Path.{refl, sym, _∙_}
 use mathlib.Core.Bool.{true, false}
 use native.Mathlib.Omega.{arith}
+use Rattle.uslp_kinds.specs.Managed.{fecf, noFecf}
 use Rattle.uslp_layout.proofs as layout
 use Rattle.uslp_demands.specs.Promise.{Function, function, Allows, Settles}
 use Rattle.uslp_roundtrip.specs.Samples.{whole, spanning, some, flagged}
@@ -32,11 +33,11 @@ pub needed-len-settles : Settles fn-needed-len
 needed-len-settles = record { total = λ κs a. tt; same = λ κs a x y s t. alike (s ∙ sym t) refl }
 
 -- forgets the FECF
-pub needed-len-fecf : Allows fn-needed-len tt (some, (whole, (true, tt))) (9, (tt, (tt, (tt, tt)))) → ⊥
+pub needed-len-fecf : Allows fn-needed-len tt (some, (whole, (fecf, tt))) (9, (tt, (tt, (tt, tt)))) → ⊥
 needed-len-fecf e = omega arith
 
 -- forgets the OCF
-pub needed-len-ocf : Allows fn-needed-len tt (flagged, (whole, (false, tt))) (9, (tt, (tt, (tt, tt)))) → ⊥
+pub needed-len-ocf : Allows fn-needed-len tt (flagged, (whole, (noFecf, tt))) (9, (tt, (tt, (tt, tt)))) → ⊥
 needed-len-ocf e = omega arith
 
 pub fecf-len-settles : Settles fn-fecf-len

@@ -1,12 +1,12 @@
 -- The promises of the reader of `uslp_lent` settle each call, and shut out tempting wrong answers of each function. `data` and `frame_data` hand
 -- back a part of the lent octets: what it shows is settled.
 use mathlib.Core.Path.{_≡_, refl, sym, ap, _∙_}
-use mathlib.Core.Bool.{false}
 use mathlib.Core.List.{List, [], _∷_}
 use Prim.Native.Nat.{ℕ}
 use native.Mathlib.Omega.{arith}
 use lib.ListN.{length}
 use denote.Ref.{RefT, now}
+use Rattle.uslp_kinds.specs.Managed.{noFecf}
 use Rattle.uslp_kinds.specs.Answers.{paperLength}
 use Rattle.uslp_kinds.specs.declared.SourceOrDestField.the-variants.{Source, Dest}
 use Rattle.uslp_kinds.specs.declared.ConstructionRule.the-variants.{PacketSpanningMultipleFrames, NoSegmentation}
@@ -27,7 +27,7 @@ use Rattle.uslp_reader.specs.Reader.{paperFrame, frameReading}
 use Rattle.uslp_reader.specs.declared.FrameAnswer.{FrameAnswer}
 use Rattle.uslp_reader.specs.declared.FrameAnswer.the-variants as frame-answer
 use Rattle.uslp_reader.proofs.Done.{frame-back}
-use Rattle.uslp_lent.specs.Kept.{paperId, paperRole, paperOcf}
+use Rattle.uslp_lent.specs.Accessors.{paperId, paperRole, paperOcf}
 use Rattle.uslp_lent.specs.declared.reader.IdAnswer.{IdAnswer}
 use Rattle.uslp_lent.specs.declared.reader.IdAnswer.the-variants as id-answer
 use Rattle.uslp_lent.specs.declared.reader.RoleAnswer.the-variants as role-answer
@@ -69,12 +69,12 @@ from-bytes-settles =
     alike (λ i. record { raw = (s .0 ∙ sym (t .0)) i; found = record { answer = e i } }) refl)
 
 -- refuses what can be read
-pub from-bytes-refuser : ShutsOut reader.from_bytes.ended (λ M. reader.from_bytes.clauses) ([], tt) (at octetsF, (false, tt)) (unread, (tt, (tt, tt)))
+pub from-bytes-refuser : ShutsOut reader.from_bytes.ended (λ M. reader.from_bytes.clauses) ([], tt) (at octetsF, (noFecf, tt)) (unread, (tt, (tt, tt)))
 unfolding frameReading headerReading fieldReading
 from-bytes-refuser = shut _ _ (λ e. not-done (e .1))
 
 -- keeps no octets
-pub from-bytes-forgets : ShutsOut reader.from_bytes.ended (λ M. reader.from_bytes.clauses) ([], tt) (at octetsF, (false, tt))
+pub from-bytes-forgets : ShutsOut reader.from_bytes.ended (λ M. reader.from_bytes.clauses) ([], tt) (at octetsF, (noFecf, tt))
     (record { raw = at []; found = read .found }, (tt, (tt, tt)))
 from-bytes-forgets = shut _ _ (λ e. let z : _≡_ {A = ℕ} 0 11 = ap (λ (s : RefT (List ℕ)). length (now s)) (e .0) in omega arith)
 
@@ -209,12 +209,12 @@ frame-data-shows = by-fact _ _ (λ κs a x y s t. (s .lies ∙ sym (t .lies), s 
 
 -- shows the whole buffer; shows nothing of a frame that can be read
 pub frame-data-whole : (r : RefT (List ℕ)) → now r ≡ octetsF
-    → ShutsOut lent.frame_data.ended (λ M. lent.frame_data.clauses) ([], tt) (at octetsF, (false, tt)) (r, (tt, (tt, tt)))
+    → ShutsOut lent.frame_data.ended (λ M. lent.frame_data.clauses) ([], tt) (at octetsF, (noFecf, tt)) (r, (tt, (tt, tt)))
 unfolding frameReading headerReading fieldReading
 frame-data-whole r h = shut _ _ (λ e. let z : _≡_ {A = ℕ} 11 2 = ap length (sym h ∙ e .shows) in omega arith)
 
 pub frame-data-none : (r : RefT (List ℕ)) → now r ≡ []
-    → ShutsOut lent.frame_data.ended (λ M. lent.frame_data.clauses) ([], tt) (at octetsF, (false, tt)) (r, (tt, (tt, tt)))
+    → ShutsOut lent.frame_data.ended (λ M. lent.frame_data.clauses) ([], tt) (at octetsF, (noFecf, tt)) (r, (tt, (tt, tt)))
 unfolding frameReading headerReading fieldReading
 frame-data-none r h = shut _ _ (λ e. let z : _≡_ {A = ℕ} 0 2 = ap length (sym h ∙ e .shows) in omega arith)
 
@@ -222,11 +222,11 @@ pub frame-data-len-settles : promise.Settles fn-frame-data-len
 frame-data-len-settles = record { total = λ κs a. tt; same = λ κs a x y s t. alike (s ∙ sym t) refl }
 
 -- the whole buffer
-pub frame-data-len-whole : Allows fn-frame-data-len ([], tt) (at octetsF, (false, tt)) (11, (tt, (tt, tt))) → ⊥
+pub frame-data-len-whole : Allows fn-frame-data-len ([], tt) (at octetsF, (noFecf, tt)) (11, (tt, (tt, tt))) → ⊥
 unfolding frameReading headerReading fieldReading
 frame-data-len-whole e = omega arith
 
 -- 0 for all
-pub frame-data-len-zero : Allows fn-frame-data-len ([], tt) (at octetsF, (false, tt)) (0, (tt, (tt, tt))) → ⊥
+pub frame-data-len-zero : Allows fn-frame-data-len ([], tt) (at octetsF, (noFecf, tt)) (0, (tt, (tt, tt))) → ⊥
 unfolding frameReading headerReading fieldReading
 frame-data-len-zero e = omega arith

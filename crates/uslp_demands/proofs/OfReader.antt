@@ -1,7 +1,7 @@
 -- The promises of `uslp_reader` settle each call, and shut out two tempting wrong answers of each function. `data` and `data_of` hand
 -- back a part of the lent octets: what it shows is settled.
 use mathlib.Core.Path.{_≡_, refl, sym, ap, _∙_}
-use mathlib.Core.Bool.{Bool, true, false}
+use mathlib.Core.Bool.{false}
 use mathlib.Core.List.{List, [], _∷_}
 use Prim.Native.Nat.{ℕ}
 use native.Mathlib.Omega.{arith}
@@ -10,8 +10,10 @@ use contract.Lifetimes.{Lfts}
 use denote.Ref.{RefT, now}
 use Rattle.uslp_octets.specs.Octets.{AreOctets}
 use Rattle.uslp_checksum.specs.Checksum.{bit, step, feed, lows, bits, checksumOf}
+use Rattle.uslp_kinds.specs.Managed.{fecf, noFecf}
 use Rattle.uslp_kinds.specs.Outcome.{Outcome, refused}
 use Rattle.uslp_kinds.proofs.Back.{back, one-to-one}
+use Rattle.uslp_kinds.specs.declared.ManagedParameters.{ManagedParameters}
 use Rattle.uslp_kinds.specs.declared.SourceOrDestField.the-variants.{Source, Dest}
 use Rattle.uslp_kinds.specs.declared.ConstructionRule.the-variants.{PacketSpanningMultipleFrames, NoSegmentation}
 use Rattle.uslp_kinds.specs.declared.OperationalControlField.the-variants.{Absent, Present}
@@ -98,7 +100,7 @@ from-bytes-settles = record {
 
 -- works the data length out before the test for FRAME_TOO_SHORT
 pub from-bytes-wrapped : Allows fn-from-bytes ([], tt)
-    (at (0xC1 ∷ 0x23 ∷ 0x48 ∷ 0xA6 ∷ 0x00 ∷ 0x07 ∷ 0x01 ∷ 0x07 ∷ 0xE4 ∷ 0x0A ∷ 0xF0 ∷ []), (false, tt)) (
+    (at (0xC1 ∷ 0x23 ∷ 0x48 ∷ 0xA6 ∷ 0x00 ∷ 0x07 ∷ 0x01 ∷ 0x07 ∷ 0xE4 ∷ 0x0A ∷ 0xF0 ∷ []), (noFecf, tt)) (
       frame-answer.Done (record {
         «primary_header» = record {
           «spacecraft_id» = 0x1234;
@@ -125,7 +127,7 @@ unfolding frameReading headerReading fieldReading
 from-bytes-wrapped e = let z : _≡_ {A = ℕ} 0 1 = cc in omega arith
 
 -- gives TRUNCATED only after seven octets
-pub from-bytes-truncated : Allows fn-from-bytes ([], tt) (at (0xC1 ∷ 0x23 ∷ 0x48 ∷ 0xA7 ∷ []), (false, tt))
+pub from-bytes-truncated : Allows fn-from-bytes ([], tt) (at (0xC1 ∷ 0x23 ∷ 0x48 ∷ 0xA7 ∷ []), (noFecf, tt))
     (frame-answer.Refused (ShortSource 4 7), (tt, (tt, tt))) → ⊥
 unfolding frameReading headerReading
 from-bytes-truncated e = let z : _≡_ {A = ℕ} 0 1 = cc in omega arith
@@ -135,7 +137,7 @@ abbrev swapped : List ℕ
 swapped = 0xC1 ∷ 0x23 ∷ 0x48 ∷ 0xA6 ∷ 0x00 ∷ 0x0C ∷ 0x01 ∷ 0x07 ∷ 0xE4 ∷ 0x0A ∷ 0xF0 ∷ 0x45 ∷ 0xB5 ∷ []
 
 abbrev Shown : List ℕ → ℕ → ℕ → Type 0
-Shown s a b = Allows fn-from-bytes ([], tt) (at s, (true, tt)) (frame-answer.Refused (BadChecksum a b), (tt, (tt, tt)))
+Shown s a b = Allows fn-from-bytes ([], tt) (at s, (fecf, tt)) (frame-answer.Refused (BadChecksum a b), (tt, (tt, tt)))
 
 pub from-bytes-swapped : Shown swapped 0x45B5 0xB545
 unfolding frameReading headerReading fieldReading checksumOf bits lows feed step bit
@@ -154,12 +156,12 @@ pub from-bytes-residue : Shown swapped 0x45B5 (checksumOf swapped) → ⊥
 from-bytes-residue e = let z = shown-one (from-bytes-swapped ∙ sym e) .1 in omega (arith, z, whole-sum)
 
 -- shows the two exchanged, or one of them twice, whatever the frame
-module _ (κs : Lfts 1) (s : RefT (List ℕ)) (oct : AreOctets (now s)) (fecf : Bool) (a b : ℕ)
-    (shown : Allows fn-from-bytes κs (s, (fecf, tt)) (frame-answer.Refused (BadChecksum a b), (tt, (tt, tt)))) where
+module _ (κs : Lfts 1) (s : RefT (List ℕ)) (oct : AreOctets (now s)) (managed : ManagedParameters) (a b : ℕ)
+    (shown : Allows fn-from-bytes κs (s, (managed, tt)) (frame-answer.Refused (BadChecksum a b), (tt, (tt, tt)))) where
   pub from-bytes-twice : a ≡ b → ⊥
-  from-bytes-twice = shown-differ (now s) oct fecf a b (sym shown)
+  from-bytes-twice = shown-differ (now s) oct managed a b (sym shown)
 
-  pub from-bytes-exchanged : Allows fn-from-bytes κs (s, (fecf, tt)) (frame-answer.Refused (BadChecksum b a), (tt, (tt, tt))) → ⊥
+  pub from-bytes-exchanged : Allows fn-from-bytes κs (s, (managed, tt)) (frame-answer.Refused (BadChecksum b a), (tt, (tt, tt))) → ⊥
   from-bytes-exchanged e = from-bytes-twice (shown-one (shown ∙ sym e) .0)
 
 pub len-frame-settles : Settles fn-len-frame

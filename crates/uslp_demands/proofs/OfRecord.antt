@@ -10,7 +10,7 @@ use Rattle.uslp_kinds.specs.declared.DoneAnswer.the-variants as done-answer
 use Rattle.uslp_kinds.specs.declared.Refusal.the-variants.{NotOpen, TotalFull}
 use Rattle.uslp_record.specs.Slots.{find, vacant, slotOf, stateAt, put, emptyRecord}
 use Rattle.uslp_record.specs.Record.{Kept, keeping, paperTotal, paperState, opening, closing, showing, missingIn, tooMuchIn, consoleTotal}
-use Rattle.uslp_record.specs.Judging.{paperCount, paperSlot, judging, slotJudging}
+use Rattle.uslp_record.specs.Judging.{paperArrival, paperSlot, judging, slotJudging}
 use Rattle.uslp_kinds.specs.declared.BypassSequenceControlFlag.the-variants.{SequenceControlledQoS, ExpeditedQoS}
 use Rattle.uslp_record.specs.declared.Channel.{Channel}
 use Rattle.uslp_record.specs.declared.ChannelRecord.{ChannelRecord}
@@ -20,11 +20,10 @@ use Rattle.uslp_record.specs.declared.TotalAnswer.the-variants as total-answer
 use Rattle.uslp_record.specs.declared.StateAnswer.the-variants as state-answer
 use Rattle.uslp_record.specs.declared.Arrival.the-variants.{New, Repeat, Late}
 use Rattle.uslp_record.specs.declared.Arrival.{Arrival}
-use Rattle.uslp_record.specs.declared.Change.{Change}
-use Rattle.uslp_record.specs.declared.CountAnswer.the-variants as count-answer
+use Rattle.uslp_record.specs.declared.ArrivalAnswer.the-variants as arrival-answer
 use Rattle.uslp_record.specs.declared.Slot.{Slot}
 use Rattle.uslp_record.specs.declared.SlotAnswer.the-variants as slot-answer
-use Rattle.uslp_record.proofs.Back.{total-back, state-back, count-back, slot-back, keeping-one}
+use Rattle.uslp_record.proofs.Back.{total-back, state-back, arrival-back, slot-back, keeping-one}
 use Rattle.uslp_record.proofs as channels
 use Rattle.uslp_demands.specs.Promise.{Function, function, Allows, Settles, Program, Keeps}
 use Rattle.uslp_demands.specs.Cases.{channel, lastHeard}
@@ -36,12 +35,12 @@ fn-new =
     function channels.ChannelRecord.new.Kinds.ps channels.ChannelRecord.new.Kinds.r
     channels.ChannelRecord.new.Reads.Pre channels.ChannelRecord.new.Reads.Learnt
 
-abbrev fn-open-channel : Function
+abbrev pub fn-open-channel : Function
 fn-open-channel =
     function channels.ChannelRecord.open_channel.Kinds.ps channels.ChannelRecord.open_channel.Kinds.r
     channels.ChannelRecord.open_channel.Reads.Pre channels.ChannelRecord.open_channel.Reads.Learnt
 
-abbrev fn-close-channel : Function
+abbrev pub fn-close-channel : Function
 fn-close-channel =
     function channels.ChannelRecord.close_channel.Kinds.ps channels.ChannelRecord.close_channel.Kinds.r
     channels.ChannelRecord.close_channel.Reads.Pre channels.ChannelRecord.close_channel.Reads.Learnt
@@ -64,15 +63,10 @@ fn-same-channel =
 abbrev fn-search : Function
 fn-search = function channels.search.Kinds.ps channels.search.Kinds.r channels.search.Reads.Pre channels.search.Reads.Learnt
 
-abbrev fn-with-change : Function
-fn-with-change =
-    function channels.ChannelRecord.with_change.Kinds.ps channels.ChannelRecord.with_change.Kinds.r
-    channels.ChannelRecord.with_change.Reads.Pre channels.ChannelRecord.with_change.Reads.Learnt
-
-abbrev fn-judge-count : Function
-fn-judge-count =
-    function channels.ChannelRecord.judge_count.Kinds.ps channels.ChannelRecord.judge_count.Kinds.r
-    channels.ChannelRecord.judge_count.Reads.Pre channels.ChannelRecord.judge_count.Reads.Learnt
+abbrev pub fn-hear-count : Function
+fn-hear-count =
+    function channels.ChannelRecord.hear_count.Kinds.ps channels.ChannelRecord.hear_count.Kinds.r
+    channels.ChannelRecord.hear_count.Reads.Pre channels.ChannelRecord.hear_count.Reads.Learnt
 
 abbrev fn-slot-judge-count : Function
 fn-slot-judge-count =
@@ -218,49 +212,41 @@ search-flag f keeps same =
     let z : _≡_ {A = ℕ} 0 8 =
     sym (keeps tt (opened, (channel, tt))) ∙ same opened channel rushed refl refl ∙ keeps tt (opened, (rushed, tt)) in omega arith
 
-pub with-change-settles : Settles fn-with-change
-with-change-settles = record { total = λ κs a. tt; same = λ κs a x y s t. alike (s ∙ sym t) refl }
-
--- changes nothing; changes another slot
-abbrev change : Change
-change = record { at = 0; state = Opened channel 1 }
-
-pub with-change-idle : Allows fn-with-change tt (emptyRecord, (change, tt)) (emptyRecord, (tt, (tt, tt))) → ⊥
-with-change-idle e =
-    let d : Closed ≡ Opened channel 1 = ap (λ (r : ChannelRecord). getD (r .slots) 0 (slotOf Closed) .state) e in
-    let z : _≡_ {A = ℕ} 0 1 = cc in omega arith
-
-pub with-change-elsewhere : Allows fn-with-change tt (emptyRecord, (change, tt)) (put emptyRecord 1 (Opened channel 1), (tt, (tt, tt))) → ⊥
-with-change-elsewhere e =
-    let d : Closed ≡ Opened channel 1 = ap (λ (r : ChannelRecord). getD (r .slots) 0 (slotOf Closed) .state) e in
-    let z : _≡_ {A = ℕ} 0 1 = cc in omega arith
-
-pub judge-count-settles : Settles fn-judge-count
-judge-count-settles = record {
+pub hear-count-settles : Settles fn-hear-count
+hear-count-settles = record {
   total = λ κs a. tt;
-  same = λ κs a x y s t.
+  same = λ κs a x y s t. let e = keeping-one (s ∙ sym t) in
       alike
-      (one-to-one paperCount (back (λ (z : Arrival × Change). count-answer.Done (z .0) (z .1)) count-answer.Refused) count-back
-      {x = x .0} {y = y .0} (s ∙ sym t))
+      (λ i. record {
+        answer = one-to-one paperArrival (back arrival-answer.Done arrival-answer.Refused) arrival-back {x = x .0 .answer} {y = y .0 .answer} (e .0) i;
+        next = e .1 i;
+      })
       refl;
 }
 
 -- changes a slot that does not hold the channel
-pub judge-count-elsewhere : (s : SlotState)
-    → Allows fn-judge-count tt (opened, (channel, (1, (7, tt)))) (count-answer.Done (New 0) (record { at = 3; state = s }), (tt, (tt, (tt, (tt, tt))))) → ⊥
+pub hear-count-elsewhere : (s : SlotState)
+    → Allows fn-hear-count tt (opened, (channel, (1, (7, tt)))) (record { answer = arrival-answer.Done (New 0); next = put opened 3 s }, (tt, (tt, (tt, (tt, tt)))))
+    → ⊥
 unfolding judging find
-judge-count-elsewhere s e = let z : _≡_ {A = ℕ} 3 0 = ap (λ (x : Arrival × Change). x .1 .at) (done-one e) in omega arith
+hear-count-elsewhere s e = let z : _≡_ {A = ℕ} 0 1 = ap (λ (q : Kept Arrival). handedIn (firstOf q)) e in omega arith
+
+-- takes a count that does not fit its width: the record would not be restored once it is saved
+pub hear-count-unfit : (a : Arrival) (q : ChannelRecord)
+    → Allows fn-hear-count tt (opened, (channel, (1, (300, tt)))) (record { answer = arrival-answer.Done a; next = q }, (tt, (tt, (tt, (tt, tt))))) → ⊥
+unfolding judging find
+hear-count-unfit a q e = not-done (sym (keeping-one e .0))
 
 -- half of M ahead taken as LATE; a REPEAT counted as handed on
-pub judge-count-half : (c : Change)
-    → Allows fn-judge-count tt (lastHeard 1 0, (channel, (1, (128, tt)))) (count-answer.Done Late c, (tt, (tt, (tt, (tt, tt))))) → ⊥
+pub hear-count-half : (q : ChannelRecord)
+    → Allows fn-hear-count tt (lastHeard 1 0, (channel, (1, (128, tt)))) (record { answer = arrival-answer.Done Late; next = q }, (tt, (tt, (tt, (tt, tt))))) → ⊥
 unfolding judging find
-judge-count-half c e = let d : Late ≡ New 127 = ap (λ (x : Arrival × Change). x .0) (done-one e) in let z : _≡_ {A = ℕ} 0 1 = cc in omega arith
+hear-count-half q e = let d : Late ≡ New 127 = done-one (keeping-one e .0) in let z : _≡_ {A = ℕ} 0 1 = cc in omega arith
 
-pub judge-count-repeat : (c : Change) → handedIn (c .state) ≡ 2
-    → Allows fn-judge-count tt (lastHeard 1 0, (channel, (1, (0, tt)))) (count-answer.Done Repeat c, (tt, (tt, (tt, (tt, tt))))) → ⊥
+pub hear-count-repeat : (q : ChannelRecord) → handedIn (stateAt q 0) ≡ 2
+    → Allows fn-hear-count tt (lastHeard 1 0, (channel, (1, (0, tt)))) (record { answer = arrival-answer.Done Repeat; next = q }, (tt, (tt, (tt, (tt, tt))))) → ⊥
 unfolding judging find
-judge-count-repeat c h e = let z : _≡_ {A = ℕ} 2 1 = sym h ∙ ap (λ (x : Arrival × Change). handedIn (x .1 .state)) (done-one e) in omega arith
+hear-count-repeat q h e = let z : _≡_ {A = ℕ} 2 1 = sym h ∙ ap (λ (v : Kept Arrival). handedIn (firstOf v)) e in omega arith
 
 pub slot-judge-count-settles : Settles fn-slot-judge-count
 slot-judge-count-settles = record {
@@ -277,6 +263,12 @@ pub slot-judge-count-width : (x : Slot)
     → Allows fn-slot-judge-count tt (slotOf (Opened channel 1), (channel, (2, (7, tt)))) (slot-answer.Done (New 0) x, (tt, (tt, (tt, (tt, tt))))) → ⊥
 unfolding slotJudging
 slot-judge-count-width x e = not-done (sym e)
+
+-- a count that does not fit its width
+pub slot-judge-count-unfit : (a : Arrival) (x : Slot)
+    → Allows fn-slot-judge-count tt (slotOf (Opened channel 1), (channel, (1, (300, tt)))) (slot-answer.Done a x, (tt, (tt, (tt, (tt, tt))))) → ⊥
+unfolding slotJudging
+slot-judge-count-unfit a x e = not-done (sym e)
 
 pub slot-judge-count-empties : Allows fn-slot-judge-count tt (slotOf (stateAt (lastHeard 1 0) 0), (channel, (1, (0, tt))))
     (slot-answer.Done Repeat (slotOf (Opened channel 1)), (tt, (tt, (tt, (tt, tt))))) → ⊥

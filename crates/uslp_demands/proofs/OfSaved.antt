@@ -2,6 +2,7 @@
 use mathlib.Core.Path.{_≡_, refl, sym, _∙_, subst}
 use mathlib.Core.List.{List, [], _∷_, _++_}
 use mathlib.Core.Bool.{true}
+use mathlib.Core.Logic.{_⊎_}
 use Prim.Native.Nat.{ℕ, _+_, _^_, _<_, _≤_}
 use native.Mathlib.Omega.{arith}
 use lib.Dec.{lit<, lit≤}
@@ -13,7 +14,7 @@ use Rattle.uslp_kinds.proofs.Back.{back, one-to-one, length-back, leaving-one}
 use Rattle.uslp_kinds.specs.declared.LengthAnswer.the-variants as length-answer
 use Rattle.uslp_kinds.proofs.Outcomes.{not-done}
 use Rattle.uslp_record.specs.Slots.{stateHolds}
-use Rattle.uslp_record.specs.Record.{Kept, keeping}
+use Rattle.uslp_record.specs.Record.{Kept, keeping, most}
 use Rattle.uslp_record.specs.declared.Channel.{Channel}
 use Rattle.uslp_record.specs.declared.Totals.{Totals}
 use Rattle.uslp_record.specs.declared.SlotState.{SlotState}
@@ -21,14 +22,14 @@ use Rattle.uslp_record.specs.declared.SlotState.the-variants.{Heard}
 use Rattle.uslp_record.specs.declared.ChannelRecord.{ChannelRecord}
 use Rattle.uslp_record.proofs.Back.{keeping-one}
 use Rattle.uslp_form.specs.Entries.{isOpened, isHeard, Each, Once}
-use Rattle.uslp_form.specs.Form.{anyLacks, rows, insert, sorted, form, GoodForm}
+use Rattle.uslp_form.specs.Form.{saysAll, rows, insert, sorted, form, Ascending, GoodForm}
 use Rattle.uslp_form.specs.declared.Form.{Form}
 use Rattle.uslp_form.specs.declared.Form.the-variants.{One, Two}
-use Rattle.uslp_form.specs.Said.{flagLong}
+use Rattle.uslp_form.specs.FromRow.{flagLong}
 use Rattle.uslp_form.specs.Saved.{saving, Restoring}
 use Rattle.uslp_form.proofs.Each.{Has}
 use Rattle.uslp_form.proofs.Rows.{Entry, restoring-one}
-use Rattle.uslp_form.proofs.Flags.{Expedited, lacks-exactly, whole-two}
+use Rattle.uslp_form.proofs.Flags.{Expedited, lacks-exactly, said-two}
 use Rattle.uslp_form.proofs.Claims as claims
 use Rattle.uslp_form.proofs.Wrong as wrong
 use Rattle.uslp_saved.specs.Reading.{firstCount, secondCount, placeOf}
@@ -58,22 +59,27 @@ restore-settles = record {
       alike (λ i. record { answer = done-alike {x = x .0 .answer} {y = y .0 .answer} (e .0) i; next = e .1 i }) refl;
 }
 
--- saves in slot order; saves form 2 in the order of form 1; says done and writes nothing
+-- saves in slot order; saves form 2 in the order of form 1; puts the later of two slots of one rank first; says done and writes nothing
 abbrev zeros : List ℕ
 zeros = 0 ∷ 0 ∷ 0 ∷ 0 ∷ 0 ∷ 0 ∷ 0 ∷ 0 ∷ 0 ∷ 0 ∷ 0 ∷ 0 ∷ []
 
 pub save-unsorted : Allows fn-save ([], tt) (wrong.two, (One, (at zeros, tt)))
     (length-answer.Done 10, (tt, (tt, (2 ∷ 0x12 ∷ 0x34 ∷ 5 ∷ 1 ∷ 0x12 ∷ 0x33 ∷ 63 ∷ 7 ∷ 0 ∷ 0 ∷ 0 ∷ [], tt)))) → ⊥
-unfolding saving anyLacks rows insert sorted
+unfolding saving saysAll rows insert sorted
 save-unsorted e = let z : _≡_ {A = ℕ} 0x34 0x33 = cc in omega arith
 
 pub save-flag-unsorted : Allows fn-save ([], tt) (wrong.mixed, (Two, (at zeros, tt)))
     (length-answer.Done 12, (tt, (tt, (2 ∷ 0x12 ∷ 0x34 ∷ 5 ∷ 1 ∷ 1 ∷ 0x12 ∷ 0x34 ∷ 5 ∷ 0 ∷ 7 ∷ 0 ∷ [], tt)))) → ⊥
-unfolding saving anyLacks rows insert sorted
+unfolding saving saysAll rows insert sorted
 save-flag-unsorted e = let z : _≡_ {A = ℕ} 1 0 = cc in omega arith
 
+pub save-late-slot : Allows fn-save ([], tt) (wrong.twice, (One, (at zeros, tt)))
+    (length-answer.Done 10, (tt, (tt, (2 ∷ 0x12 ∷ 0x34 ∷ 5 ∷ 1 ∷ 0x12 ∷ 0x34 ∷ 5 ∷ 7 ∷ 0 ∷ 0 ∷ 0 ∷ [], tt)))) → ⊥
+unfolding saving saysAll rows insert sorted
+save-late-slot e = let z : _≡_ {A = ℕ} 1 7 = cc in omega arith
+
 pub save-idle : Allows fn-save ([], tt) (wrong.two, (One, (at zeros, tt))) (length-answer.Done 10, (tt, (tt, (zeros, tt)))) → ⊥
-unfolding saving anyLacks rows insert sorted
+unfolding saving saysAll rows insert sorted
 save-idle e = let z : _≡_ {A = ℕ} 0 2 = cc in omega arith
 
 -- what a program leaves that saves, as the definition sees it
@@ -91,7 +97,7 @@ module _ (f : Program fn-save) (keeps : Keeps fn-save f) (r : ChannelRecord) (b 
 
   -- saving form 2, it never does
   pub lacks-never : {vs t : List ℕ} → saverOf f Two r b ≡ leaving (refused 19 vs) t → ⊥
-  lacks-never {vs} {t} e = claims.saving-whole Two r b (whole-two r) (sym (keeps ([], tt) (r, (Two, (at b, tt)))) ∙ e)
+  lacks-never {vs} {t} e = claims.saving-said Two r b (said-two r) (sym (keeps ([], tt) (r, (Two, (at b, tt)))) ∙ e)
 
   -- saving form 1 and dropping the flag
   pub no-flag-dropped : Expedited r → {n : ℕ} {t : List ℕ} → saverOf f One r b ≡ leaving (done n) t → ⊥
@@ -116,6 +122,10 @@ module _ (f : Program fn-restore) (keeps : Keeps fn-restore f) (g : Form) (r : C
   -- octets left over
   pub no-left-over : (s : List ℕ) (us hs : List SlotState) → GoodForm g s us hs → (x : ℕ) (t : List ℕ) → Refuses (s ++ (x ∷ t))
   no-left-over s us hs k x t = claims.left-over g r s us hs x t _ k (restores (s ++ (x ∷ t)))
+
+  -- octets wanting at the end
+  pub no-too-few : (s : List ℕ) (us hs : List SlotState) (x : ℕ) (t : List ℕ) → GoodForm g (s ++ (x ∷ t)) us hs → Refuses s
+  no-too-few s us hs x t k = wrong.too-few g r s us hs x t _ k (restores s)
 
   -- a flag other than 0 or 1, of whatever entry
   pub no-flag-taken : (s : List ℕ) (i : ℕ) → i < firstCount g s + secondCount g s
@@ -142,6 +152,16 @@ module _ (f : Program fn-restore) (keeps : Keeps fn-restore f) (g : Form) (r : C
 
     pub no-far-last : (k : Channel) (w : ℕ) (t : Totals) → Has (us ++ hs) (Heard k w t) → 256 ^ w ≤ t .last → Refuses octets
     no-far-last = wrong.no-far-last g r us hs a b _ (restores octets)
+
+    pub no-high-total : (k : Channel) (w : ℕ) (t : Totals) → Has (us ++ hs) (Heard k w t)
+        → (most < t .«handed_on») ⊎ ((most < t .missing) ⊎ ((most < t .repeats) ⊎ (most < t .late))) → Refuses octets
+    no-high-total = wrong.no-high-total g r us hs a b _ (restores octets)
+
+    pub no-bad-field : (k : Channel) (w : ℕ) (x : SlotState) → Has (us ++ hs) x → wrong.Names k w x → (63 < k .«vc_id») ⊎ ((w ≡ 0) ⊎ (7 < w)) → Refuses octets
+    no-bad-field = wrong.no-bad-field g r us hs a b _ (restores octets)
+
+    pub no-descending : (Ascending g us × Ascending g hs → ⊥) → Refuses octets
+    no-descending = wrong.no-descending g r us hs a b _ (restores octets)
 
   -- restoring that keeps old channels: what it leaves of a good form is the same, whatever record it found
   pub no-old : (r′ : ChannelRecord) (s : List ℕ) (us hs : List SlotState) → GoodForm g s us hs → restorerOf f g r s ≡ restorerOf f g r′ s

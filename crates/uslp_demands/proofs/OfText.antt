@@ -13,8 +13,8 @@ use Rattle.uslp_demands.proofs.Alike.{alike}
 abbrev fn-put-text : Function
 fn-put-text = function text.put_text.Kinds.ps text.put_text.Kinds.r text.put_text.Reads.Pre text.put_text.Reads.Learnt
 
-abbrev fn-put-number : Function
-fn-put-number = function text.put_number.Kinds.ps text.put_number.Kinds.r text.put_number.Reads.Pre text.put_number.Reads.Learnt
+abbrev fn-put-decimal : Function
+fn-put-decimal = function text.put_decimal.Kinds.ps text.put_decimal.Kinds.r text.put_decimal.Reads.Pre text.put_decimal.Reads.Learnt
 
 pub put-text-settles : Settles fn-put-text
 put-text-settles = record {
@@ -27,18 +27,18 @@ put-text-settles = record {
 pub put-text-out : Allows fn-put-text ([], ([], tt)) (at (1 ∷ 2 ∷ []), (at (7 ∷ []), (0, tt))) (1, (tt, (7 ∷ [], (tt, tt)))) → ⊥
 put-text-out e = let z : _≡_ {A = ℕ} 7 1 = ap (λ (s : List ℕ). getD s 0 0) (e .stands) in omega arith
 
-pub put-number-settles : Settles fn-put-number
-put-number-settles = record {
+pub put-decimal-settles : Settles fn-put-decimal
+put-decimal-settles = record {
   total = λ κs a. tt;
   same = λ κs a x y s t. alike (s .ends ∙ sym (t .ends))
       (λ i. (tt, ((s .stands ∙ sym (t .stands)) i, (tt, tt))));
 }
 
 -- tells nothing; tells a zero in front
-pub put-number-idle : Allows fn-put-number ([], tt) (7, (at (0 ∷ 0 ∷ []), (0, tt))) (0, (tt, (0 ∷ 0 ∷ [], (tt, tt)))) → ⊥
+pub put-decimal-idle : Allows fn-put-decimal ([], tt) (7, (at (0 ∷ 0 ∷ []), (0, tt))) (0, (tt, (0 ∷ 0 ∷ [], (tt, tt)))) → ⊥
 unfolding widthIn
-put-number-idle e = let z : _≡_ {A = ℕ} 0 1 = e .ends in omega arith
+put-decimal-idle e = let z : _≡_ {A = ℕ} 0 1 = e .ends in omega arith
 
-pub put-number-zero : Allows fn-put-number ([], tt) (7, (at (0 ∷ 0 ∷ []), (0, tt))) (2, (tt, (48 ∷ 55 ∷ [], (tt, tt)))) → ⊥
+pub put-decimal-zero : Allows fn-put-decimal ([], tt) (7, (at (0 ∷ 0 ∷ []), (0, tt))) (2, (tt, (48 ∷ 55 ∷ [], (tt, tt)))) → ⊥
 unfolding widthIn
-put-number-zero e = let z : _≡_ {A = ℕ} 2 1 = e .ends in omega arith
+put-decimal-zero e = let z : _≡_ {A = ℕ} 2 1 = e .ends in omega arith

@@ -20,7 +20,7 @@ use Rattle.uslp_writer.specs.declared.ReservedAnswer.the-variants as reserved-a
 use Rattle.uslp_writer.proofs.Paths.{reserved-back}
 use Rattle.uslp_writer.proofs as frame
 use Rattle.uslp_demands.specs.Promise.{Function, function, at, Allows, Settles, Shows}
-use Rattle.uslp_roundtrip.specs.Samples.{plain, unflagged, zeros}
+use Rattle.uslp_roundtrip.specs.Samples.{plain, flaggedOnly, zeros}
 use Rattle.uslp_demands.proofs.Alike.{alike}
 
 -- the functions, each with its promise
@@ -87,7 +87,7 @@ unfolding frameLength
 len-written-wrapped e = let z : _≡_ {A = ℕ} 0 1 = cc in omega arith
 
 -- an OCF flag with no OCF
-pub len-written-lax : Allows fn-len-written tt (unflagged, (2, tt)) (length-answer.Done 15, (tt, (tt, tt))) → ⊥
+pub len-written-lax : Allows fn-len-written tt (flaggedOnly, (2, tt)) (length-answer.Done 15, (tt, (tt, tt))) → ⊥
 unfolding frameLength
 len-written-lax e = let z : _≡_ {A = ℕ} 0 1 = cc in omega arith
 
@@ -105,7 +105,7 @@ unfolding frameWriting
 write-to-slice-idle e = let z : _≡_ {A = ℕ} 0 0xC1 = cc in omega arith
 
 -- writes a frame whose OCF flag has no OCF
-pub write-to-slice-lax : Allows fn-write-to-slice ([], ([], tt)) (unflagged, (at [], (at [], tt)))
+pub write-to-slice-lax : Allows fn-write-to-slice ([], ([], tt)) (flaggedOnly, (at [], (at [], tt)))
     (length-answer.Refused (ShortTarget 0 13), (tt, (tt, ([], tt)))) → ⊥
 unfolding frameWriting
 write-to-slice-lax e = let z : _≡_ {A = ℕ} 0 1 = cc in omega arith

@@ -1,4 +1,4 @@
--- The entries of a good form in the other form, where neither lacks a flag of them: they ascend alike, and saving the record of them writes that form.
+-- The entries of a good form in the other form, where that says them too: they ascend alike, and saving the record of them writes that form.
 use mathlib.Core.Path.{_≡_, refl, ap}
 use mathlib.Core.List.{List, [], _∷_, _++_}
 use Prim.Native.Nat.{ℕ, _*_, _-_, _<_}
@@ -11,21 +11,21 @@ use Rattle.uslp_record.specs.declared.SlotState.the-variants.{Closed, Opened, H
 use Rattle.uslp_form.specs.Entries.{Each}
 use Rattle.uslp_form.specs.declared.Form.{Form}
 use Rattle.uslp_form.specs.declared.Form.the-variants.{One, Two}
-use Rattle.uslp_form.specs.Form.{rank, EntryWhole, Whole, form, formOf, Ascending, GoodForm, restored}
+use Rattle.uslp_form.specs.Form.{rank, EntrySaid, RecordSaid, form, formOf, Ascending, GoodForm, restored}
 use Rattle.uslp_form.proofs.Each.{each-left, each-right, each-both}
-use Rattle.uslp_form.proofs.Flags.{not-expedited, none-lacks, lacks-none}
+use Rattle.uslp_form.proofs.Flags.{is-controlled, said-each, each-said}
 use Rattle.uslp_form.proofs.Restored.{slots-each, each-restored}
 use Rattle.uslp_form.proofs.Trips.{saved-again}
 
--- where neither form lacks the flag of an entry, both have it in one place of the order
-rank-scaled : (x : SlotState) → EntryWhole One x → rank Two x ≡ rank One x * 256
+-- where both forms say an entry, both have it in one place of the order
+rank-scaled : (x : SlotState) → EntrySaid One x → rank Two x ≡ rank One x * 256
 rank-scaled Closed e = omega arith
-rank-scaled (Opened k w) e = omega (arith, ap bypassNumber (not-expedited (k .«sequence_control_flag») e))
-rank-scaled (Heard k w t) e = omega (arith, ap bypassNumber (not-expedited (k .«sequence_control_flag») e))
+rank-scaled (Opened k w) e = omega (arith, ap bypassNumber (is-controlled (k .«sequence_control_flag») e))
+rank-scaled (Heard k w t) e = omega (arith, ap bypassNumber (is-controlled (k .«sequence_control_flag») e))
 
 module _ (f g : Form) where
   abbrev Both : SlotState → Type 0
-  Both x = EntryWhole f x × EntryWhole g x
+  Both x = EntrySaid f x × EntrySaid g x
 
 rank-across : (f g : Form) (x y : SlotState) → Both f g x → Both f g y → rank f x < rank f y → rank g x < rank g y
 rank-across One One x y a b h = h
@@ -42,20 +42,20 @@ module _ (f g : Form) where
     ascends-across l (a .1) (o .1),
   )
 
-  -- the entries of a good form are a good form of the other, where that lacks no flag of them
-  module _ {s : List ℕ} (us hs : List SlotState) (k : GoodForm f s us hs) (whole : Each (EntryWhole g) (us ++ hs)) where
+  -- the entries of a good form are a good form of the other, where that says them
+  module _ {s : List ℕ} (us hs : List SlotState) (k : GoodForm f s us hs) (said : Each (EntrySaid g) (us ++ hs)) where
     both : Each (Both f g) (us ++ hs)
-    both = each-both (EntryWhole f) (EntryWhole g) (Both f g) (λ x a b. (a, b)) (us ++ hs) (k .flags) whole
+    both = each-both (EntrySaid f) (EntrySaid g) (Both f g) (λ x a b. (a, b)) (us ++ hs) (k .flags) said
 
     pub good-across : GoodForm g (form g us hs) us hs
     good-across = record {
       octets = refl;
       unheard = k .unheard;
       heard = k .heard;
-      flags = whole;
+      flags = said;
       sound = k .sound;
-      first = ascends-across us (each-left (Both f g) us hs both) (k .first);
-      second = ascends-across hs (each-right (Both f g) us hs both) (k .second);
+      unheard-ascend = ascends-across us (each-left (Both f g) us hs both) (k .unheard-ascend);
+      heard-ascend = ascends-across hs (each-right (Both f g) us hs both) (k .heard-ascend);
       once = k .once;
       few = k .few;
     }
@@ -64,8 +64,8 @@ module _ (f g : Form) where
     pub saved-across : formOf g (restored (us ++ hs)) ≡ form g us hs
     saved-across = saved-again g (form g us hs) us hs good-across
 
-    pub whole-restored : Whole g (restored (us ++ hs))
-    whole-restored = lacks-none g (restored (us ++ hs) .slots) (each-restored (us ++ hs) (k .few) (EntryWhole g) refl whole)
+    pub said-restored : RecordSaid g (restored (us ++ hs))
+    said-restored = each-said g (restored (us ++ hs) .slots) (each-restored (us ++ hs) (k .few) (EntrySaid g) refl said)
 
-  pub entries-whole : (l : List SlotState) → Whole g (restored l) → Each (EntryWhole g) l
-  entries-whole l w = slots-each (EntryWhole g) l (replicate (8 - length l) (slotOf Closed)) (none-lacks g (restored l .slots) w)
+  pub entries-said : (l : List SlotState) → RecordSaid g (restored l) → Each (EntrySaid g) l
+  entries-said l w = slots-each (EntrySaid g) l (replicate (8 - length l) (slotOf Closed)) (said-each g (restored l .slots) w)

@@ -1,7 +1,7 @@
 -- What saving and restoring answer and leave, both ways round; how long a form is, and how it ascends.
 use mathlib.Core.Path.{_≡_, refl, sym, _∙_, ap}
 use mathlib.Core.Logic.{_↔_, _⊎_, inl, inr}
-use mathlib.Core.Bool.{Bool, true, false}
+use mathlib.Core.Bool.{Bool, true, false, not}
 use mathlib.Core.List.{List, [], _∷_, _++_, append-assoc, append-nil}
 use Prim.Native.Nat.{ℕ, suc, _+_, _*_, _<_, _≤_}
 use native.Mathlib.Omega.{arith}
@@ -29,48 +29,48 @@ use Rattle.uslp_record.specs.declared.ChannelRecord.{ChannelRecord}
 use Rattle.uslp_form.specs.Entries.{isOpened, isHeard}
 use Rattle.uslp_record.specs.Made.{Made}
 use Rattle.uslp_form.specs.declared.Form.{Form}
-use Rattle.uslp_form.specs.Form.{flagColumn, columns, row, anyLacks, Whole, rows, section, form, insert, sorted, formOf, GoodForm, restored}
+use Rattle.uslp_form.specs.Form.{flagColumn, columns, row, saysAll, RecordSaid, rows, section, form, insert, sorted, formOf, GoodForm, restored}
 use Rattle.uslp_form.specs.declared.Form.the-variants.{One, Two}
-use Rattle.uslp_form.specs.Said.{heardLong}
+use Rattle.uslp_form.specs.FromRow.{heardLong}
 use Rattle.uslp_form.specs.Saved.{saving, Restoring}
 use Rattle.uslp_form.specs.Saved.Restoring.{good, bad}
 use Rattle.uslp_form.proofs.Flags.{Expedited, lacks-exactly}
 use Rattle.uslp_form.proofs.Sorted.{not-both, sorted-length}
-use Rattle.uslp_form.proofs.Trips.{unheardOf, heardOf, entriesOf, good-saved, saved-again, whole-good}
+use Rattle.uslp_form.proofs.Trips.{unheardOf, heardOf, entriesOf, good-saved, saved-again, said-good}
 use Rattle.uslp_form.proofs.Asked.{asked-again, total-again}
 use Rattle.uslp_form.proofs.Rows.{opened-size, heard-size, good-unheard, good-heard, good-one, section-opened, section-heard, restores-done}
 
--- saving: 19 where the form lacks the flag of an open channel, whatever room there is; else with room it is done, the octets behind the form
+-- saving: 19 where the form does not say every open channel, whatever room there is; else with room it is done, the octets behind the form
 -- stay; else 2, and nothing is written
 module _ (f : Form) (r : ChannelRecord) (b : List ℕ) where
-  pub saving-lacks : anyLacks f (r .slots) ≡ true → saving f r b ≡ leaving (refused 19 []) b
+  pub saving-lacks : saysAll f (r .slots) ≡ false → saving f r b ≡ leaving (refused 19 []) b
   unfolding saving
   saving-lacks e = simp e
 
-  module _ (whole : Whole f r) where
+  module _ (said : RecordSaid f r) where
     pub saving-done : length (formOf f r) ≤ length b → saving f r b ≡ leaving (done (length (formOf f r))) (formOf f r ++ drop (length (formOf f r)) b)
     unfolding saving
-    saving-done h = simp (whole, le-ltb (length b) (length (formOf f r)) h)
+    saving-done h = simp (said, le-ltb (length b) (length (formOf f r)) h)
 
     pub saving-short : length b < length (formOf f r) → saving f r b ≡ leaving (refused 2 (length b ∷ length (formOf f r) ∷ [])) b
     unfolding saving
-    saving-short h = simp (whole, lt-ltb (length b) (length (formOf f r)) h)
+    saving-short h = simp (said, lt-ltb (length b) (length (formOf f r)) h)
 
-  -- a saving that is done: the form lacks no flag, and what it leaves is the form with the octets behind it
+  -- a saving that is done: the form says every open channel, and what it leaves is the form with the octets behind it
   pub record Saves (n : ℕ) (t : List ℕ) : Type 0 where
-    pub whole : Whole f r
+    pub said : RecordSaid f r
     pub count : n ≡ length (formOf f r)
     pub left : t ≡ formOf f r ++ drop (length (formOf f r)) b
 
   pub saves : {n : ℕ} {t : List ℕ} → leaving (done n) t ≡ saving f r b → Saves n t
-  saves {n} {t} e = go (anyLacks f (r .slots)) refl (decLt (length b) (length (formOf f r)))
+  saves {n} {t} e = go (saysAll f (r .slots)) refl (decLt (length b) (length (formOf f r)))
     where
-      go : (x : Bool) → anyLacks f (r .slots) ≡ x → Dec (length b < length (formOf f r)) → Saves n t
-      go true w h = absurd (not-done (sym (leaving-one (e ∙ saving-lacks w) .0)))
-      go false w (yes h) = absurd (not-done (sym (leaving-one (e ∙ saving-short w h) .0)))
-      go false w (no h) =
+      go : (x : Bool) → saysAll f (r .slots) ≡ x → Dec (length b < length (formOf f r)) → Saves n t
+      go true w (yes h) = absurd (not-done (sym (leaving-one (e ∙ saving-short w h) .0)))
+      go true w (no h) =
           let d = leaving-one (e ∙ saving-done w (omega arith)) in
-          record { whole = w; count = done-one (d .0); left = d .1 }
+          record { said = w; count = done-one (d .0); left = d .1 }
+      go false w h = absurd (not-done (sym (leaving-one (e ∙ saving-lacks w) .0)))
 
   -- what was written stands in the buffer
   pub saving-fits : {n : ℕ} {t : List ℕ} → leaving (done n) t ≡ saving f r b → n ≤ length t
@@ -88,23 +88,23 @@ unfolding saving
 saving-kept f r b e =
     let n = length (formOf f r) in
     refused-keeps
-    (firstOf ((anyLacks f (r .slots), refused 19 []) ∷ (ltb (length b) n, refused 2 (length b ∷ n ∷ [])) ∷ []) (done n))
+    (firstOf ((not (saysAll f (r .slots)), refused 19 []) ∷ (ltb (length b) n, refused 2 (length b ∷ n ∷ [])) ∷ []) (done n))
     (formOf f r ++ drop n b) b e
 
--- 19 is given only where the form lacks a flag: form 1 exactly if an open channel is expedited
-pub saving-whole : (f : Form) (r : ChannelRecord) (b : List ℕ) → Whole f r → {vs t : List ℕ} → saving f r b ≡ leaving (refused 19 vs) t → ⊥
-saving-whole f r b w {vs} {t} e = go (decLt (length b) (length (formOf f r)))
+-- 19 is given only where the form does not say every open channel: form 1 exactly if one is expedited
+pub saving-said : (f : Form) (r : ChannelRecord) (b : List ℕ) → RecordSaid f r → {vs t : List ℕ} → saving f r b ≡ leaving (refused 19 vs) t → ⊥
+saving-said f r b w {vs} {t} e = go (decLt (length b) (length (formOf f r)))
   where
     go : Dec (length b < length (formOf f r)) → ⊥
     go (yes h) = let d = leaving-one (sym (saving-short f r b w h) ∙ e) .0 in let z : _≡_ {A = ℕ} 2 19 = cc in omega arith
     go (no h) = not-done (sym (leaving-one (sym (saving-done f r b w (omega arith)) ∙ e) .0))
 
 pub lacks-of : (r : ChannelRecord) (b : List ℕ) {vs t : List ℕ} → saving One r b ≡ leaving (refused 19 vs) t → Expedited r
-lacks-of r b {vs} {t} e = go (anyLacks One (r .slots)) refl
+lacks-of r b {vs} {t} e = go (saysAll One (r .slots)) refl
   where
-    go : (x : Bool) → anyLacks One (r .slots) ≡ x → Expedited r
-    go true w = lacks-exactly r .0 w
-    go false w = absurd (saving-whole One r b w e)
+    go : (x : Bool) → saysAll One (r .slots) ≡ x → Expedited r
+    go true w = absurd (saving-said One r b w e)
+    go false w = lacks-exactly r .0 w
 
 -- restoring: done exactly if the octets are a good form, and then with the record of its entries (`restores-done` is the way back)
 module _ (f : Form) (r : ChannelRecord) (s : List ℕ) where
@@ -129,26 +129,26 @@ module _ (f : Form) (r : ChannelRecord) (s : List ℕ) where
   saves-same {q} h b room =
       let d = restores-done f h in
       let e : formOf f q ≡ s = ap (formOf f) (sym (d .is)) ∙ saved-again f s (d .unheard) (d .heard) (d .is-good) in
-      let w : Whole f q =
-      ap (λ (x : ChannelRecord). anyLacks f (x .slots)) (sym (d .is)) ∙ whole-good f s (d .unheard) (d .heard) (d .is-good) in
+      let w : RecordSaid f q =
+      ap (λ (x : ChannelRecord). saysAll f (x .slots)) (sym (d .is)) ∙ said-good f s (d .unheard) (d .heard) (d .is-good) in
       saving-done f q b w (omega (arith, ap length e, room)) ∙ ap (λ (l : List ℕ). leaving (done (length l)) (l ++ drop (length l) b)) e
 
--- a record that calls made and whose flags the form does not lack, saved and restored, whatever record was found: done, and what is asked is
+-- a record that calls made and whose open channels the form says, saved and restored, whatever record was found: done, and what is asked is
 -- answered as before
 pub record Back (f : Form) (r q : ChannelRecord) : Type 0 where
   pub asked : (K : Channel) → showing q K ≡ showing r K
   pub total : consoleTotal q ≡ consoleTotal r
   pub again : formOf f q ≡ formOf f r
 
-module _ (f : Form) (r : ChannelRecord) (made : Made r) (whole : Whole f r) (found : ChannelRecord) where
+module _ (f : Form) (r : ChannelRecord) (made : Made r) (said : RecordSaid f r) (found : ChannelRecord) where
   pub restores-saved : Restoring f found (formOf f r) (keeping (done tt) (restored (entriesOf f r)))
-  restores-saved = good (unheardOf f r) (heardOf f r) (good-saved f r made whole)
+  restores-saved = good (unheardOf f r) (heardOf f r) (good-saved f r made said)
 
   pub comes-back : Back f r (restored (entriesOf f r))
   comes-back = record {
-    asked = asked-again f r made whole;
-    total = total-again f r made whole;
-    again = saved-again f (formOf f r) (unheardOf f r) (heardOf f r) (good-saved f r made whole);
+    asked = asked-again f r made said;
+    total = total-again f r made said;
+    again = saved-again f (formOf f r) (unheardOf f r) (heardOf f r) (good-saved f r made said);
   }
 
 -- octets left over are refused

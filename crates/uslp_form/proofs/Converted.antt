@@ -1,7 +1,7 @@
 -- Converting: done, it leaves the form of the same entries; both ways round; and what is restored from either is the same.
 use mathlib.Core.Path.{_≡_, refl, sym, _∙_, ap, subst}
 use mathlib.Core.Logic.{_↔_}
-use mathlib.Core.Bool.{true}
+use mathlib.Core.Bool.{false}
 use mathlib.Core.List.{List, [], _∷_, _++_}
 use Prim.Native.Nat.{ℕ, _<_, _≤_}
 use native.Mathlib.Omega.{arith}
@@ -20,10 +20,10 @@ use Rattle.uslp_record.specs.declared.SlotState.{SlotState}
 use Rattle.uslp_record.specs.declared.ChannelRecord.{ChannelRecord}
 use Rattle.uslp_form.specs.Entries.{Each}
 use Rattle.uslp_form.specs.declared.Form.{Form}
-use Rattle.uslp_form.specs.Form.{anyLacks, EntryWhole, Whole, form, GoodForm, restored}
+use Rattle.uslp_form.specs.Form.{saysAll, EntrySaid, RecordSaid, form, GoodForm, restored}
 use Rattle.uslp_form.specs.Saved.{saving, Restoring, Converting}
 use Rattle.uslp_form.specs.Saved.Converting.{good, bad}
-use Rattle.uslp_form.proofs.Across.{good-across, saved-across, whole-restored, entries-whole}
+use Rattle.uslp_form.proofs.Across.{good-across, saved-across, said-restored, entries-said}
 use Rattle.uslp_form.proofs.Rows.{good-one, restores-done}
 use Rattle.uslp_form.proofs.Claims.{saving-lacks, saving-done, saving-short, saves, saving-kept, restoring-good, restoring-bad, refused-bad}
 
@@ -50,7 +50,7 @@ module _ (f g : Form) where
         go : {o : Written ℕ} → Converting f g s b o → o ≡ leaving (done n) t → Converts n t
         go (good us hs k) e =
             let d = saves g (restored (us ++ hs)) b (sym e) in
-            let w = entries-whole f g (us ++ hs) (d .whole) in
+            let w = entries-said f g (us ++ hs) (d .said) in
             let a = saved-across f g us hs k w in
             record {
               unheard = us;
@@ -93,12 +93,12 @@ module _ (f g : Form) where
     converting-one (good us hs k) q = sym (converting-good us hs k q)
     converting-one (bad m) q = sym (converting-bad m q)
 
-    -- done exactly if the octets are a good form whose flags the other does not lack, and there is room
+    -- done exactly if the octets are a good form whose channels the other says, and there is room
     pub record Convertible : Type 0 where
       pub unheard : List SlotState
       pub heard : List SlotState
       pub from : GoodForm f s unheard heard
-      pub whole : Whole g (restored (unheard ++ heard))
+      pub said : RecordSaid g (restored (unheard ++ heard))
       pub room : length (form g unheard heard) ≤ length b
 
     pub record Done : Type 0 where
@@ -110,9 +110,9 @@ module _ (f g : Form) where
         → let w = form g (c .unheard) (c .heard) in Converting f g s b (leaving (done (length w)) (w ++ drop (length w) b))
     converting-done c =
         let r = restored (c .unheard ++ c .heard) in
-        let a = saved-across f g (c .unheard) (c .heard) (c .from) (entries-whole f g (c .unheard ++ c .heard) (c .whole)) in
+        let a = saved-across f g (c .unheard) (c .heard) (c .from) (entries-said f g (c .unheard ++ c .heard) (c .said)) in
         subst (Converting f g s b)
-        (saving-done g r b (c .whole) (omega (arith, ap length a, c .room)) ∙ ap (λ (l : List ℕ). leaving (done (length l)) (l ++ drop (length l) b)) a)
+        (saving-done g r b (c .said) (omega (arith, ap length a, c .room)) ∙ ap (λ (l : List ℕ). leaving (done (length l)) (l ++ drop (length l) b)) a)
         (good (c .unheard) (c .heard) (c .from))
 
     pub done-exactly : Done ↔ Convertible
@@ -123,31 +123,31 @@ module _ (f g : Form) where
             let c = converts (d .is) in
             let us = c .unheard in
             let hs = c .heard in
-            let w = whole-restored f g us hs (c .from) (c .to .flags) in
+            let w = said-restored f g us hs (c .from) (c .to .flags) in
             let a = saved-across f g us hs (c .from) (c .to .flags) in
             let e = converting-good us hs (c .from) (d .is) in
             record {
               unheard = us;
               heard = hs;
               from = c .from;
-              whole = w;
+              said = w;
               room = elim (decLt (length b) (length (form g us hs))) [
                 | yes h ↦ absurd (not-done (sym (leaving-one (e ∙ saving-short g (restored (us ++ hs)) b w (omega (arith, ap length a))) .0)))
                 | no h ↦ omega arith
               ];
             }
 
-    -- 19 where the other form lacks the flag of an entry, whatever room there is; else 2 where there is none
+    -- 19 where the other form does not say every entry, whatever room there is; else 2 where there is none
     module _ (us hs : List SlotState) (k : GoodForm f s us hs) {o : Written ℕ} (h : Converting f g s b o) where
-      pub converting-lacks : anyLacks g (restored (us ++ hs) .slots) ≡ true → o ≡ leaving (refused 19 []) b
+      pub converting-lacks : saysAll g (restored (us ++ hs) .slots) ≡ false → o ≡ leaving (refused 19 []) b
       converting-lacks e = converting-good us hs k h ∙ saving-lacks g (restored (us ++ hs)) b e
 
-      pub converting-short : Each (EntryWhole g) (us ++ hs) → length b < length (form g us hs)
+      pub converting-short : Each (EntrySaid g) (us ++ hs) → length b < length (form g us hs)
           → o ≡ leaving (refused 2 (length b ∷ length (form g us hs) ∷ [])) b
       converting-short w e =
           let a = saved-across f g us hs k w in
           converting-good us hs k h
-          ∙ saving-short g (restored (us ++ hs)) b (whole-restored f g us hs k w) (omega (arith, ap length a))
+          ∙ saving-short g (restored (us ++ hs)) b (said-restored f g us hs k w) (omega (arith, ap length a))
           ∙ ap (λ (l : List ℕ). leaving (refused 2 (length b ∷ length l ∷ [])) b) a
 
     -- it is restoring, whatever record is found, and then saving
@@ -190,7 +190,7 @@ module _ {f g : Form} {s b : List ℕ} {n : ℕ} {t : List ℕ} (h : Converting 
         unheard = us;
         heard = hs;
         from = good-wrote;
-        whole = whole-restored g f us hs good-wrote (told .from .flags);
+        said = said-restored g f us hs good-wrote (told .from .flags);
         room = omega (arith, ap length is);
       } in
       converting-one g f (take n t) c k (converting-done g f (take n t) c back)

@@ -18,30 +18,30 @@ use Rattle.uslp_record.specs.declared.ChannelRecord.{ChannelRecord}
 use Rattle.uslp_form.specs.Entries.{Each}
 use Rattle.uslp_form.specs.declared.Form.{Form}
 use Rattle.uslp_form.specs.declared.Form.the-variants.{One, Two}
-use Rattle.uslp_form.specs.Form.{anyLacks, EntryWhole, form, formOf, GoodForm, restored}
+use Rattle.uslp_form.specs.Form.{saysAll, EntrySaid, form, formOf, GoodForm, restored}
 use Rattle.uslp_form.specs.Saved.{saving, Converting}
 use Rattle.uslp_form.specs.Saved.Converting.{good, bad}
 use Rattle.uslp_form.proofs.Each.{each-map}
-use Rattle.uslp_form.proofs.Flags.{not-expedited, Expedited, lacks-exactly, whole-two}
-use Rattle.uslp_form.proofs.Across.{whole-restored, entries-whole}
-use Rattle.uslp_form.proofs.Claims.{saving-lacks, saving-done, saving-short, saving-whole, lacks-of}
+use Rattle.uslp_form.proofs.Flags.{is-controlled, Expedited, lacks-exactly, said-two}
+use Rattle.uslp_form.proofs.Across.{said-restored, entries-said}
+use Rattle.uslp_form.proofs.Claims.{saving-lacks, saving-done, saving-short, saving-said, lacks-of}
 use Rattle.uslp_form.proofs.Converted.{Done, done-exactly, converting-lacks}
 
--- the flag of an entry is 0: form 1 does not lack it exactly then
+-- the flag of an entry is 0: form 1 says it exactly then
 abbrev pub FlagZero : SlotState → Type 0
 FlagZero Closed = Unit {0}
 FlagZero (Opened k width) = bypassNumber (k .«sequence_control_flag») ≡ 0
 FlagZero (Heard k width totals) = bypassNumber (k .«sequence_control_flag») ≡ 0
 
-whole-zero : (x : SlotState) → EntryWhole One x → FlagZero x
-whole-zero Closed e = tt
-whole-zero (Opened k w) e = ap bypassNumber (not-expedited (k .«sequence_control_flag») e)
-whole-zero (Heard k w t) e = ap bypassNumber (not-expedited (k .«sequence_control_flag») e)
+said-zero : (x : SlotState) → EntrySaid One x → FlagZero x
+said-zero Closed e = tt
+said-zero (Opened k w) e = ap bypassNumber (is-controlled (k .«sequence_control_flag») e)
+said-zero (Heard k w t) e = ap bypassNumber (is-controlled (k .«sequence_control_flag») e)
 
-zero-whole : (x : SlotState) → FlagZero x → EntryWhole One x
-zero-whole Closed e = refl
-zero-whole (Opened k w) e = ap (λ (n : ℕ). eqb n 1) e
-zero-whole (Heard k w t) e = ap (λ (n : ℕ). eqb n 1) e
+zero-said : (x : SlotState) → FlagZero x → EntrySaid One x
+zero-said Closed e = refl
+zero-said (Opened k w) e = ap (λ (n : ℕ). eqb n 0) e
+zero-said (Heard k w t) e = ap (λ (n : ℕ). eqb n 0) e
 
 -- new to old is done exactly if the octets are a good form 2, every flag is 0, and there is room
 pub record Downable (s b : List ℕ) : Type 0 where
@@ -60,7 +60,7 @@ down-exactly s b = (
         unheard = c .unheard;
         heard = c .heard;
         from = c .from;
-        flags = each-map (EntryWhole One) FlagZero whole-zero l (entries-whole Two One l (c .whole));
+        flags = each-map (EntrySaid One) FlagZero said-zero l (entries-said Two One l (c .said));
         room = c .room;
       },
   λ c.
@@ -68,20 +68,20 @@ down-exactly s b = (
         unheard = c .unheard;
         heard = c .heard;
         from = c .from;
-        whole = whole-restored Two One (c .unheard) (c .heard) (c .from)
-            (each-map FlagZero (EntryWhole One) zero-whole (c .unheard ++ c .heard) (c .flags));
+        said = said-restored Two One (c .unheard) (c .heard) (c .from)
+            (each-map FlagZero (EntrySaid One) zero-said (c .unheard ++ c .heard) (c .flags));
         room = c .room;
       }),
 )
 
 -- 18 only where the octets are no good form
 saving-form : (g : Form) (r : ChannelRecord) (b : List ℕ) {vs t : List ℕ} → saving g r b ≡ leaving (refused 18 vs) t → ⊥
-saving-form g r b {vs} {t} e = go (anyLacks g (r .slots)) refl (decLt (length b) (length (formOf g r)))
+saving-form g r b {vs} {t} e = go (saysAll g (r .slots)) refl (decLt (length b) (length (formOf g r)))
   where
-    go : (x : Bool) → anyLacks g (r .slots) ≡ x → Dec (length b < length (formOf g r)) → ⊥
-    go true w h = let d = leaving-one (sym (saving-lacks g r b w) ∙ e) .0 in let z : _≡_ {A = ℕ} 19 18 = cc in omega arith
-    go false w (yes h) = let d = leaving-one (sym (saving-short g r b w h) ∙ e) .0 in let z : _≡_ {A = ℕ} 2 18 = cc in omega arith
-    go false w (no h) = not-done (sym (leaving-one (sym (saving-done g r b w (omega arith)) ∙ e) .0))
+    go : (x : Bool) → saysAll g (r .slots) ≡ x → Dec (length b < length (formOf g r)) → ⊥
+    go true w (yes h) = let d = leaving-one (sym (saving-short g r b w h) ∙ e) .0 in let z : _≡_ {A = ℕ} 2 18 = cc in omega arith
+    go true w (no h) = not-done (sym (leaving-one (sym (saving-done g r b w (omega arith)) ∙ e) .0))
+    go false w h = let d = leaving-one (sym (saving-lacks g r b w) ∙ e) .0 in let z : _≡_ {A = ℕ} 19 18 = cc in omega arith
 
 pub form-only : (f g : Form) (s b : List ℕ) {vs t : List ℕ} → Converting f g s b (leaving (refused 18 vs) t)
     → (us hs : List SlotState) → GoodForm f s us hs → ⊥
@@ -114,5 +114,5 @@ pub up-lacks-none : (f : Form) (s b : List ℕ) {vs t : List ℕ} → Converting
 up-lacks-none f s b {vs} {t} h = go h refl
   where
     go : {o : Written ℕ} → Converting f Two s b o → o ≡ leaving (refused 19 vs) t → ⊥
-    go (good us hs k) e = saving-whole Two (restored (us ++ hs)) b (whole-two (restored (us ++ hs))) e
+    go (good us hs k) e = saving-said Two (restored (us ++ hs)) b (said-two (restored (us ++ hs))) e
     go (bad m) e = let d = leaving-one e .0 in let z : _≡_ {A = ℕ} 18 19 = cc in omega arith

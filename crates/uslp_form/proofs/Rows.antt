@@ -1,12 +1,12 @@
 -- A row gives its entry back, and octets are the form of one list of entries only.
 use mathlib.Core.Path.{_≡_, refl, sym, _∙_, ap, ap₂}
-use mathlib.Core.Bool.{Bool, true, false}
+use mathlib.Core.Bool.{Bool, true}
 use mathlib.Core.List.{List, [], _∷_, _++_, append-assoc, append-nil}
 use Prim.Native.Nat.{ℕ, _+_, _*_, _/_}
 use native.Mathlib.Omega.{arith}
 use lib.ListN.{length, drop, getD}
 use lib.Seq.{drop-at}
-use Rattle.uslp_octets.specs.Octets.{Field, Fits, bitsIn, valueOf, octets, pack, unpack, named}
+use Rattle.uslp_octets.specs.Octets.{BitField, Fits, bitsIn, valueOf, octets, pack, unpack, named}
 use Rattle.uslp_octets.proofs.Laws.{length-octets, unpack-pack}
 use Rattle.uslp_kinds.specs.Outcome.{done, refused}
 use Rattle.uslp_kinds.specs.Kinds.{bypassOf}
@@ -21,9 +21,9 @@ use Rattle.uslp_record.proofs.Count.{counts-le}
 use Rattle.uslp_form.specs.Entries.{Each, isOpened, isHeard}
 use Rattle.uslp_record.specs.Made.{Openable, Sound}
 use Rattle.uslp_form.specs.declared.Form.{Form}
-use Rattle.uslp_form.specs.Form.{columns, lacksFlag, totalsRow, row, EntryWhole, rows, section, form, GoodForm, restored}
+use Rattle.uslp_form.specs.Form.{columns, says, totalsRow, row, EntrySaid, rows, section, form, GoodForm, restored}
 use Rattle.uslp_form.specs.declared.Form.the-variants.{One, Two}
-use Rattle.uslp_form.specs.Said.{unheardLong, heardLong, channelIn, totalsIn, openedBy, heardBy}
+use Rattle.uslp_form.specs.FromRow.{unheardLong, heardLong, channelBy, totalsBy, openedBy, heardBy}
 use Rattle.uslp_form.specs.Saved.{Restoring}
 use Rattle.uslp_form.specs.Saved.Restoring.{good, bad}
 use Rattle.uslp_record.proofs.Slots.{true-false}
@@ -31,7 +31,7 @@ use Rattle.uslp_form.proofs.Each.{each-both, each-left, each-right}
 use Rattle.uslp_form.proofs.Flags.{sequence-one}
 
 -- two rows of the same widths, whole octets, that pack to the same are the same, and so is what stands behind them
-module _ (fs gs : List Field) (n : ℕ) (a : bitsIn fs ≡ 8 * n) (b : bitsIn gs ≡ 8 * n) (same : (s : List ℕ) → unpack fs s ≡ unpack gs s) (s t : List ℕ)
+module _ (fs gs : List BitField) (n : ℕ) (a : bitsIn fs ≡ 8 * n) (b : bitsIn gs ≡ 8 * n) (same : (s : List ℕ) → unpack fs s ≡ unpack gs s) (s t : List ℕ)
     (e : pack fs ++ s ≡ pack gs ++ t) where
   pub row-one : Fits fs → Fits gs → fs ≡ gs
   row-one h k = sym (unpack-pack fs n a s h) ∙ same (pack fs ++ s) ∙ ap (unpack gs) e ∙ unpack-pack gs n b t k
@@ -41,12 +41,12 @@ module _ (fs gs : List Field) (n : ℕ) (a : bitsIn fs ≡ 8 * n) (b : bitsIn gs
       sym (drop-at (pack fs) s n (length-octets (bitsIn fs / 8) (valueOf fs) ∙ (let z : bitsIn fs / 8 ≡ n = omega arith in z)))
       ∙ ap (drop n) e ∙ drop-at (pack gs) t n (length-octets (bitsIn gs / 8) (valueOf gs) ∙ (let z : bitsIn gs / 8 ≡ n = omega arith in z))
 
--- an entry whose numbers fit its columns, and whose flag the form does not lack: its row gives it back
+-- an entry whose numbers fit its columns, and that the form says: its row gives it back
 abbrev Rowed : Form → SlotState → Type 0
-Rowed f x = Fits (row f x) × EntryWhole f x
+Rowed f x = Fits (row f x) × EntrySaid f x
 
 -- columns before others, none of which has the flag's name, say their channel
-pub channel-back : (f : Form) (k : Channel) (fs : List Field) → named "bypass" fs ≡ 0 → lacksFlag f k ≡ false → channelIn (columns f k ++ fs) ≡ k
+pub channel-back : (f : Form) (k : Channel) (fs : List BitField) → named "bypass" fs ≡ 0 → says f k ≡ true → channelBy (columns f k ++ fs) ≡ k
 channel-back One k fs none e =
     (λ i. record { «spacecraft_id» = k .«spacecraft_id»; «vc_id» = k .«vc_id»; «sequence_control_flag» = bypassOf (none i) }) ∙ sequence-one k e
 channel-back Two k fs none e =
@@ -56,21 +56,21 @@ channel-back Two k fs none e =
       «sequence_control_flag» = bypass-back (k .«sequence_control_flag») i;
     }
 
-width-back : (f : Form) (k : Channel) (w : ℕ) (fs : List Field) → named "width" (columns f k ++ ("width", 8, w) ∷ fs) ≡ w
+width-back : (f : Form) (k : Channel) (w : ℕ) (fs : List BitField) → named "width" (columns f k ++ ("width", 8, w) ∷ fs) ≡ w
 width-back One k w fs = refl
 width-back Two k w fs = refl
 
-totals-back : (f : Form) (k : Channel) (w : ℕ) (t : Totals) → totalsIn (columns f k ++ ("width", 8, w) ∷ totalsRow t) ≡ t
+totals-back : (f : Form) (k : Channel) (w : ℕ) (t : Totals) → totalsBy (columns f k ++ ("width", 8, w) ∷ totalsRow t) ≡ t
 totals-back One k w t = refl
 totals-back Two k w t = refl
 
-module _ (f : Form) (k : Channel) (w : ℕ) (whole : lacksFlag f k ≡ false) where
+module _ (f : Form) (k : Channel) (w : ℕ) (said : says f k ≡ true) where
   pub opened-back : openedBy (row f (Opened k w)) ≡ Opened k w
-  opened-back = ap₂ Opened (channel-back f k (("width", 8, w) ∷ []) refl whole) (width-back f k w [])
+  opened-back = ap₂ Opened (channel-back f k (("width", 8, w) ∷ []) refl said) (width-back f k w [])
 
   pub heard-back : (t : Totals) → heardBy (row f (Heard k w t)) ≡ Heard k w t
   heard-back t =
-      let c = channel-back f k (("width", 8, w) ∷ totalsRow t) refl whole in
+      let c = channel-back f k (("width", 8, w) ∷ totalsRow t) refl said in
       λ i. Heard (c i) (width-back f k w (totalsRow t) i) (totals-back f k w t i)
 
 -- the rows of a kind have the same names and bits, whole octets
@@ -178,7 +178,7 @@ module _ (f : Form) where
       let h = section-one isOpened reads-opened us vs a b (section f hs) (section f gs) e in
       (h .0, section-one isHeard reads-heard hs gs c d [] [] (append-nil (section f hs) ∙ h .1 ∙ sym (append-nil (section f gs))) .0)
 
-  pub columns-fit : (k : Channel) {w : ℕ} (fs : List Field) → Openable k w → Fits fs → Fits (columns f k ++ fs)
+  pub columns-fit : (k : Channel) {w : ℕ} (fs : List BitField) → Openable k w → Fits fs → Fits (columns f k ++ fs)
   columns-fit k fs o h = go f
     where
       go : (g : Form) → Fits (columns g k ++ fs)
@@ -203,7 +203,7 @@ module _ (f : Form) where
 
   good-rowed : {s : List ℕ} {us hs : List SlotState} → GoodForm f s us hs → Each (Rowed f) (us ++ hs)
   good-rowed {us} {hs} g =
-      each-both Sound (EntryWhole f) (Rowed f) (λ x s e. (sound-fits x s, e)) (us ++ hs) (g .sound) (g .flags)
+      each-both Sound (EntrySaid f) (Rowed f) (λ x s e. (sound-fits x s, e)) (us ++ hs) (g .sound) (g .flags)
 
   pub good-unheard : {s : List ℕ} {us hs : List SlotState} → GoodForm f s us hs → Each (Entry isOpened) us
   good-unheard {us} {hs} g = good-entries isOpened us (g .unheard) (each-left (Rowed f) us hs (good-rowed g))

@@ -14,10 +14,10 @@ use Rattle.uslp_record.specs.declared.ChannelRecord.{ChannelRecord}
 use Rattle.uslp_record.specs.Made.{Sound, Made}
 use Rattle.uslp_form.specs.Entries.{Each, Once, isOpened, isHeard}
 use Rattle.uslp_form.specs.declared.Form.{Form}
-use Rattle.uslp_form.specs.Form.{EntryWhole, Whole, form, sorted, formOf, GoodForm, restored}
+use Rattle.uslp_form.specs.Form.{EntrySaid, RecordSaid, form, sorted, formOf, GoodForm, restored}
 use Rattle.uslp_record.proofs.Slots.{true-false}
 use Rattle.uslp_form.proofs.Each.{statesIn, each-append, each-from, each-map, each-both, Has, has-left, has-right, once-append, once-from}
-use Rattle.uslp_form.proofs.Flags.{none-lacks, lacks-none}
+use Rattle.uslp_form.proofs.Flags.{said-each, each-said}
 use Rattle.uslp_form.proofs.Sorted.{Savable, sorted-each, sorted-all, sorted-has, sorted-once, sorted-ascends, sorted-none, sorted-past, sorted-same, sorted-length, sorted-apart, open-rank, opened-open, heard-open, not-both, opened-not, heard-not}
 use Rattle.uslp_form.proofs.Restored.{each-slots, each-closed, find-none, none-found, has-found, Found, find-has, eight-restored, each-restored, made-restored}
 
@@ -35,15 +35,15 @@ module _ (f : Form) (r : ChannelRecord) where
   pub all-entries : (P : SlotState → Type 0) → Each P (statesIn (r .slots)) → Each P entriesOf
   all-entries P e = each-append P unheardOf heardOf (sorted-all f isOpened P (r .slots) e) (sorted-all f isHeard P (r .slots) e)
 
-  -- calls made it, and the form lacks no flag of its open channels
-  module _ (made : Made r) (whole : Whole f r) where
+  -- calls made it, and the form says its open channels
+  module _ (made : Made r) (said : RecordSaid f r) where
     states-sound : Each Sound (statesIn (r .slots))
     states-sound = each-from Sound (r .slots) (λ j h. made .sound j)
 
     states-savable : Each (Savable f) (statesIn (r .slots))
     states-savable =
-        each-both Sound (EntryWhole f) (Savable f) (λ x s e. (s, e)) (statesIn (r .slots)) states-sound
-        (none-lacks f (r .slots) whole)
+        each-both Sound (EntrySaid f) (Savable f) (λ x s e. (s, e)) (statesIn (r .slots)) states-sound
+        (said-each f (r .slots) said)
 
     states-once : Once (statesIn (r .slots))
     states-once = once-from (r .slots) (λ k i j a b. made .once k i j (omega (arith, made .eight)) (omega (arith, made .eight)))
@@ -59,10 +59,10 @@ module _ (f : Form) (r : ChannelRecord) where
           (each-from (λ (x : SlotState). isOpened x ≡ true → isOpened x ≡ true) (r .slots) (λ j h e. e));
       heard = sorted-each f isHeard (λ (x : SlotState). isHeard x ≡ true) (r .slots)
           (each-from (λ (x : SlotState). isHeard x ≡ true → isHeard x ≡ true) (r .slots) (λ j h e. e));
-      flags = all-entries (EntryWhole f) (none-lacks f (r .slots) whole);
+      flags = all-entries (EntrySaid f) (said-each f (r .slots) said);
       sound = all-entries Sound states-sound;
-      first = sorted-ascends f isOpened (Savable f) (r .slots) states-once states-savable (λ x y a b. open-rank f x y (opened-open x a) (opened-open y b));
-      second = sorted-ascends f isHeard (Savable f) (r .slots) states-once states-savable (λ x y a b. open-rank f x y (heard-open x a) (heard-open y b));
+      unheard-ascend = sorted-ascends f isOpened (Savable f) (r .slots) states-once states-savable (λ x y a b. open-rank f x y (opened-open x a) (opened-open y b));
+      heard-ascend = sorted-ascends f isHeard (Savable f) (r .slots) states-once states-savable (λ x y a b. open-rank f x y (heard-open x a) (heard-open y b));
       once =
           once-append unheardOf heardOf (sorted-once f isOpened (r .slots) states-once) (sorted-once f isHeard (r .slots) states-once)
           (sorted-apart f isOpened isHeard not-both (r .slots) states-once);
@@ -113,7 +113,7 @@ module _ (f : Form) (s : List ℕ) (us hs : List SlotState) (good : GoodForm f s
   unheard-again : sorted f isOpened (restored (us ++ hs) .slots) ≡ us
   unheard-again =
       ap (sorted f isOpened) apart-slots
-      ∙ sorted-same f isOpened us (map slotOf hs ++ closed) (good .unheard) (good .first)
+      ∙ sorted-same f isOpened us (map slotOf hs ++ closed) (good .unheard) (good .unheard-ascend)
       (sorted-none f isOpened (map slotOf hs ++ closed)
       (each-slots (λ (x : SlotState). isOpened x ≡ false) hs closed
       (each-map (λ (x : SlotState). isHeard x ≡ true) (λ (x : SlotState). isOpened x ≡ false) heard-not hs (good .heard)) (none-closed isOpened refl)))
@@ -123,16 +123,16 @@ module _ (f : Form) (s : List ℕ) (us hs : List SlotState) (good : GoodForm f s
       ap (sorted f isHeard) apart-slots
       ∙ sorted-past f isHeard us (map slotOf hs ++ closed) (each-map (λ (x : SlotState). isOpened x ≡ true)
       (λ (x : SlotState). isHeard x ≡ false) opened-not us (good .unheard))
-      ∙ sorted-same f isHeard hs closed (good .heard) (good .second) (sorted-none f isHeard closed (none-closed isHeard refl))
+      ∙ sorted-same f isHeard hs closed (good .heard) (good .heard-ascend) (sorted-none f isHeard closed (none-closed isHeard refl))
 
   -- the same octets, whatever record stood before
   pub saved-again : formOf f (restored (us ++ hs)) ≡ s
   saved-again = ap₂ (form f) unheard-again heard-again ∙ sym (good .octets)
 
-  -- the form lacks no flag of what it gives
-  pub whole-good : Whole f (restored (us ++ hs))
-  whole-good =
-      lacks-none f (restored (us ++ hs) .slots) (each-restored (us ++ hs) (good .few) (EntryWhole f) refl (good .flags))
+  -- the form says what it gives
+  pub said-good : RecordSaid f (restored (us ++ hs))
+  said-good =
+      each-said f (restored (us ++ hs) .slots) (each-restored (us ++ hs) (good .few) (EntrySaid f) refl (good .flags))
 
   pub made-good : Made (restored (us ++ hs))
   made-good = made-restored (us ++ hs) (good .few) (good .sound) (good .once)

@@ -1,35 +1,49 @@
 -- The wrong programs that the definitions of saving and restoring shut out.
 use mathlib.Core.Path.{_≡_, refl, sym, _∙_, ap, subst}
 use mathlib.Core.Bool.{true, false}
+use mathlib.Core.Logic.{_⊎_, ⊎-elim}
 use mathlib.Core.List.{List, [], _∷_, _++_}
 use Prim.Native.Nat.{ℕ, _^_, _<_, _≤_}
 use native.Mathlib.Omega.{arith}
 use lib.ListN.{length, replicate}
 use Rattle.uslp_kinds.specs.Outcome.{done, refused}
+use Rattle.uslp_kinds.proofs.Outcomes.{not-done}
 use Rattle.uslp_kinds.specs.declared.BypassSequenceControlFlag.{BypassSequenceControlFlag}
 use Rattle.uslp_kinds.specs.declared.BypassSequenceControlFlag.the-variants.{SequenceControlledQoS, ExpeditedQoS}
 use Rattle.uslp_record.specs.Slots.{stateHolds, find, slotOf}
-use Rattle.uslp_record.specs.Record.{Kept, keeping, showing}
+use Rattle.uslp_record.specs.Record.{Kept, keeping, showing, most}
 use Rattle.uslp_record.specs.declared.Channel.{Channel}
 use Rattle.uslp_record.specs.declared.Totals.{Totals}
 use Rattle.uslp_record.specs.declared.SlotState.{SlotState}
 use Rattle.uslp_record.specs.declared.SlotState.the-variants.{Closed, Opened, Heard}
 use Rattle.uslp_record.specs.declared.ChannelRecord.{ChannelRecord}
 use Rattle.uslp_form.specs.Entries.{Each, Once, isOpened, isHeard}
-use Rattle.uslp_record.specs.Made.{Sound}
+use Rattle.uslp_record.specs.Made.{Openable, Sound}
 use Rattle.uslp_form.specs.declared.Form.{Form}
-use Rattle.uslp_form.specs.Form.{anyLacks, rows, insert, sorted, form, formOf, GoodForm, restored}
+use Rattle.uslp_form.specs.Form.{saysAll, rows, insert, sorted, form, formOf, Ascending, GoodForm, restored}
 use Rattle.uslp_form.specs.declared.Form.the-variants.{One, Two}
 use Rattle.uslp_form.specs.Saved.{Restoring}
+use Rattle.uslp_form.specs.Saved.Restoring.{good}
 use Rattle.uslp_form.proofs.Each.{Has, each-has, once-apart}
 use Rattle.uslp_record.proofs.Slots.{true-false}
 use Rattle.uslp_form.proofs.Rows.{Entry, form-one, good-unheard, good-heard, restores-done}
 use Rattle.uslp_form.proofs.Flags.{Expedited, lacks-exactly}
-use Rattle.uslp_form.proofs.Trips.{whole-good}
-use Rattle.uslp_form.proofs.Claims.{restoring-good, restoring-bad}
+use Rattle.uslp_form.proofs.Trips.{said-good}
+use Rattle.uslp_form.proofs.Claims.{restoring-good, restoring-bad, left-over}
 use Rattle.uslp_form.proofs.Restored.{find-none, eight-restored, each-restored}
 use Rattle.uslp_record.proofs.Back.{keeping-one}
 use Rattle.uslp_record.proofs.Calls.{showing-none}
+
+-- the entry is of this channel, in this width
+abbrev pub Names : Channel → ℕ → SlotState → Type 0
+Names k w Closed = ⊥
+Names k w (Opened c v) = (c ≡ k) × (v ≡ w)
+Names k w (Heard c v t) = (c ≡ k) × (v ≡ w)
+
+named-openable : (k : Channel) (w : ℕ) (x : SlotState) → Names k w x → Sound x → Openable k w
+named-openable k w Closed n s = absurd n
+named-openable k w (Opened c v) n s = subst (Openable k) (n .1) (subst (λ (d : Channel). Openable d v) (n .0) s)
+named-openable k w (Heard c v t) n s = subst (Openable k) (n .1) (subst (λ (d : Channel). Openable d v) (n .0) (s .0))
 
 -- octets made of entries that fit their columns: restoring is refused where those entries are not good
 module _ (f : Form) (r : ChannelRecord) (us hs : List SlotState) (a : Each (Entry f isOpened) us) (b : Each (Entry f isHeard) hs) (o : Kept (Unit {0}))
@@ -63,6 +77,34 @@ module _ (f : Form) (r : ChannelRecord) (us hs : List SlotState) (a : Each (Entr
   pub no-far-last : (k : Channel) (w : ℕ) (t : Totals) → Has (us ++ hs) (Heard k w t) → 256 ^ w ≤ t .last → o ≡ keeping (refused 18 []) r
   no-far-last k w t h e = no-unsound (Heard k w t) h (λ s. omega (arith, s .1 .last))
 
+  -- a total above the largest
+  pub no-high-total : (k : Channel) (w : ℕ) (t : Totals) → Has (us ++ hs) (Heard k w t)
+      → (most < t .«handed_on») ⊎ ((most < t .missing) ⊎ ((most < t .repeats) ⊎ (most < t .late))) → o ≡ keeping (refused 18 []) r
+  no-high-total k w t h high =
+      no-unsound (Heard k w t) h
+      (λ s.
+      ⊎-elim (λ n. omega (arith, n, s .1 .«handed_on»))
+      (⊎-elim (λ n. omega (arith, n, s .1 .missing)) (⊎-elim (λ n. omega (arith, n, s .1 .repeats)) (λ n. omega (arith, n, s .1 .late)))) high)
+
+  -- a channel or a width that opening refuses by 10
+  pub no-bad-field : (k : Channel) (w : ℕ) (x : SlotState) → Has (us ++ hs) x → Names k w x → (63 < k .«vc_id») ⊎ ((w ≡ 0) ⊎ (7 < w))
+      → o ≡ keeping (refused 18 []) r
+  no-bad-field k w x h of bad =
+      no-unsound x h
+      (λ s.
+      let p = named-openable k w x of s in
+      ⊎-elim (λ n. omega (arith, n, p .channel)) (⊎-elim (λ n. omega (arith, n, p .some)) (λ n. omega (arith, n, p .narrow))) bad)
+
+  -- a section that does not ascend
+  pub no-descending : (Ascending f us × Ascending f hs → ⊥) → o ≡ keeping (refused 18 []) r
+  no-descending n = refused-unless (λ g. n (g .unheard-ascend, g .heard-ascend))
+
+-- octets that are wanting at the end of a good form
+pub too-few : (f : Form) (r : ChannelRecord) (s : List ℕ) (us hs : List SlotState) (x : ℕ) (t : List ℕ) (o : Kept (Unit {0}))
+    → GoodForm f (s ++ (x ∷ t)) us hs → Restoring f r s o → o ≡ keeping (refused 18 []) r
+too-few f r s us hs x t o g =
+    restoring-bad f r s o (λ vs gs k. not-done (sym (keeping-one (left-over f r s vs gs x t _ k (good us hs g)) .0)))
+
 -- restoring that keeps old channels: what it gives is the same whatever record it found, and a channel that does not stand in the octets is not open
 pub no-trace : (f : Form) (r r′ q q′ : ChannelRecord) (s : List ℕ) → Restoring f r s (keeping (done tt) q) → Restoring f r′ s (keeping (done tt) q′) → q ≡ q′
 no-trace f r r′ q q′ s h k =
@@ -82,8 +124,8 @@ no-old f r q us hs s g h K none =
 pub none-expedited : (r q : ChannelRecord) (s : List ℕ) → Restoring One r s (keeping (done tt) q) → Expedited q → ⊥
 none-expedited r q s h x =
     let d = restores-done One h in
-    true-false (lacks-exactly q .1 x)
-    (ap (λ (y : ChannelRecord). anyLacks One (y .slots)) (sym (d .is)) ∙ whole-good One s (d .unheard) (d .heard) (d .is-good))
+    true-false (ap (λ (y : ChannelRecord). saysAll One (y .slots)) (sym (d .is)) ∙ said-good One s (d .unheard) (d .heard) (d .is-good))
+    (lacks-exactly q .1 x)
 
 -- saving in slot order: two channels opened in descending order are written ascending
 abbrev channel : ℕ → ℕ → BypassSequenceControlFlag → Channel
@@ -122,3 +164,11 @@ mixed = record {
 pub flag-ascending : formOf Two mixed ≡ 2 ∷ 0x12 ∷ 0x34 ∷ 5 ∷ 0 ∷ 7 ∷ 0x12 ∷ 0x34 ∷ 5 ∷ 1 ∷ 1 ∷ 0 ∷ []
 unfolding rows insert sorted
 flag-ascending = refl
+
+-- of two entries of one rank, which no call makes, the one from the earlier slot is written first
+abbrev pub twice : ChannelRecord
+twice = record { slots = slotOf (Opened (craft 0x1234 5) 7) ∷ slotOf (Opened (craft 0x1234 5) 1) ∷ replicate 6 (slotOf Closed) }
+
+pub then-slot : formOf One twice ≡ 2 ∷ 0x12 ∷ 0x34 ∷ 5 ∷ 7 ∷ 0x12 ∷ 0x34 ∷ 5 ∷ 1 ∷ 0 ∷ []
+unfolding rows insert sorted
+then-slot = refl

@@ -1,11 +1,11 @@
 -- A saved record as octets (docs/RULES.md, section 6.6): two sections, each after a one-octet count; an entry is a row of columns.
 use mathlib.Core.Path.{_≡_}
-use mathlib.Core.Bool.{Bool, true, false, cond, _||_}
+use mathlib.Core.Bool.{Bool, true, cond, _&&_}
 use mathlib.Core.List.{List, [], _∷_, _++_, map}
 use Prim.Native.Nat.{ℕ, _-_, _<_, _≤_}
 use lib.Dec.{eqb, leb}
 use lib.ListN.{length, replicate}
-use Rattle.uslp_octets.specs.Octets.{Field, Fits, pack, valueOf}
+use Rattle.uslp_octets.specs.Octets.{BitField, Fits, pack, valueOf}
 use Rattle.uslp_kinds.specs.Kinds.{bypassNumber}
 use Rattle.uslp_record.specs.Slots.{slotOf, stateAt}
 use Rattle.uslp_record.specs.Made.{Sound}
@@ -20,20 +20,20 @@ use Rattle.uslp_form.specs.declared.Form.the-variants.{One, Two}
 use Rattle.uslp_form.specs.Entries.{isOpened, isHeard, Each, Once}
 
 -- the column of the bypass flag: form 1 is form 2 with this one left out
-abbrev pub flagColumn : Form → Channel → List Field
+abbrev pub flagColumn : Form → Channel → List BitField
 flagColumn One k = []
 flagColumn Two k = ("bypass", 8, bypassNumber (k .«sequence_control_flag»)) ∷ []
 
 -- the columns that say which channel it is; both sections ascend by them, the first counting most
-abbrev pub columns : Form → Channel → List Field
+abbrev pub columns : Form → Channel → List BitField
 columns f k = ("spacecraft", 16, k .«spacecraft_id») ∷ ("channel", 8, k .«vc_id») ∷ flagColumn f k
 
--- so form 1 is for sequence-controlled channels, and lacks the flag of an expedited one; form 2 lacks none
-abbrev pub lacksFlag : Form → Channel → Bool
-lacksFlag One k = eqb (bypassNumber (k .«sequence_control_flag»)) 1
-lacksFlag Two k = false
+-- so form 1 says sequence-controlled channels alone, and form 2 says every channel
+abbrev pub says : Form → Channel → Bool
+says One k = eqb (bypassNumber (k .«sequence_control_flag»)) 0
+says Two k = true
 
-abbrev pub totalsRow : Totals → List Field
+abbrev pub totalsRow : Totals → List BitField
 totalsRow t =
     ("last", 64, t .last)
     ∷ ("handed on", 64, t .«handed_on»)
@@ -44,7 +44,7 @@ totalsRow t =
 
 module _ (f : Form) where
   -- the row of an entry, and its place in the order
-  abbrev pub row : SlotState → List Field
+  abbrev pub row : SlotState → List BitField
   row Closed = []
   row (Opened k width) = columns f k ++ ("width", 8, width) ∷ []
   row (Heard k width totals) = columns f k ++ ("width", 8, width) ∷ totalsRow totals
@@ -54,22 +54,21 @@ module _ (f : Form) where
   rank (Opened k width) = valueOf (columns f k)
   rank (Heard k width totals) = valueOf (columns f k)
 
-  -- it lacks the flag of an entry, of an open channel among slots
-  abbrev pub entryLacks : SlotState → Bool
-  entryLacks Closed = false
-  entryLacks (Opened k width) = lacksFlag f k
-  entryLacks (Heard k width totals) = lacksFlag f k
+  -- it says the channel of an entry, and each that is open among slots
+  abbrev pub saysEntry : SlotState → Bool
+  saysEntry Closed = true
+  saysEntry (Opened k width) = says f k
+  saysEntry (Heard k width totals) = says f k
 
-  unfoldable pub anyLacks : List Slot → Bool
-  anyLacks [] = false
-  anyLacks (x ∷ l) = entryLacks (x .state) || anyLacks l
+  unfoldable pub saysAll : List Slot → Bool
+  saysAll [] = true
+  saysAll (x ∷ l) = saysEntry (x .state) && saysAll l
 
-  -- it says the channel of an entry whole, and those that are open in a record
-  abbrev pub EntryWhole : SlotState → Type 0
-  EntryWhole x = entryLacks x ≡ false
+  abbrev pub EntrySaid : SlotState → Type 0
+  EntrySaid x = saysEntry x ≡ true
 
-  abbrev pub Whole : ChannelRecord → Type 0
-  Whole r = anyLacks (r .slots) ≡ false
+  abbrev pub RecordSaid : ChannelRecord → Type 0
+  RecordSaid r = saysAll (r .slots) ≡ true
 
   unfoldable pub rows : List SlotState → List ℕ
   rows [] = []
@@ -108,10 +107,10 @@ module _ (f : Form) where
     pub octets : s ≡ form us hs
     pub unheard : Each (λ (x : SlotState). isOpened x ≡ true) us
     pub heard : Each (λ (x : SlotState). isHeard x ≡ true) hs
-    pub flags : Each EntryWhole (us ++ hs)
+    pub flags : Each EntrySaid (us ++ hs)
     pub sound : Each Sound (us ++ hs)
-    pub first : Ascending us
-    pub second : Ascending hs
+    pub unheard-ascend : Ascending us
+    pub heard-ascend : Ascending hs
     pub once : Once (us ++ hs)
     pub few : length (us ++ hs) ≤ 8
 

@@ -1,4 +1,4 @@
 pub mod Entries
 pub mod Form
-pub mod Said
+pub mod FromRow
 pub mod Saved

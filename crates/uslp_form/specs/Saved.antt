@@ -1,22 +1,23 @@
 -- Saving, restoring and converting (docs/RULES.md, section 6.6): what each call answers and what it leaves.
+use mathlib.Core.Bool.{not}
 use mathlib.Core.List.{List, [], _∷_, _++_}
 use Prim.Native.Nat.{ℕ}
 use lib.Dec.{ltb}
 use lib.ListN.{length, drop}
-use Rattle.uslp_kinds.specs.Outcome.{done, refused, firstOf, Written, leaving, written}
+use Rattle.uslp_kinds.specs.Outcome.{done, refused, firstOf, Written, leaving, onlyIfDone}
 use Rattle.uslp_record.specs.Record.{Kept, keeping}
 use Rattle.uslp_record.specs.declared.SlotState.{SlotState}
 use Rattle.uslp_record.specs.declared.ChannelRecord.{ChannelRecord}
 use Rattle.uslp_form.specs.declared.Form.{Form}
-use Rattle.uslp_form.specs.Form.{anyLacks, formOf, GoodForm, restored}
+use Rattle.uslp_form.specs.Form.{saysAll, formOf, GoodForm, restored}
 
 module _ (f : Form) where
-  -- saving: 19 where the form lacks the flag of an open channel, then 2; the octets behind the form stay
+  -- saving: 19 where the form does not say every open channel, then 2; the octets behind the form stay
   unfoldable pub saving : ChannelRecord → List ℕ → Written ℕ
   saving r b =
-      written
+      onlyIfDone
       (firstOf
-      ((anyLacks f (r .slots), refused 19 [])
+      ((not (saysAll f (r .slots)), refused 19 [])
       ∷ (ltb (length b) (length (formOf f r)), refused 2 (length b ∷ length (formOf f r) ∷ []))
       ∷ [])
       (done (length (formOf f r))))

@@ -1,16 +1,16 @@
 -- Hearing a frame (docs/RULES.md, section 6.3): what it answers, what it hands on, and the record that it leaves, in its order.
 use Prim.Native.Nat.{ℕ}
-use mathlib.Core.Bool.{Bool}
 use mathlib.Core.List.{List, []}
 use Rattle.uslp_kinds.specs.Outcome.{Outcome, done, refused, andThen}
 use Rattle.uslp_kinds.specs.Answers.{refusal}
+use Rattle.uslp_kinds.specs.declared.ManagedParameters.{ManagedParameters}
 use Rattle.uslp_primary_header.specs.declared.PrimaryHeader.{PrimaryHeader}
 use Rattle.uslp_reader.specs.Reader.{frameReading, contentsIn, contentsAt}
 use Rattle.uslp_reader.specs.declared.TransferFrame.{TransferFrame}
-use Rattle.uslp_record.specs.Record.{Kept}
-use Rattle.uslp_record.specs.Judging.{judging, taken}
+use Rattle.uslp_record.specs.Slots.{Change}
+use Rattle.uslp_record.specs.Record.{Kept, applied}
+use Rattle.uslp_record.specs.Judging.{judging}
 use Rattle.uslp_record.specs.declared.Channel.{Channel}
-use Rattle.uslp_record.specs.declared.Change.{Change}
 use Rattle.uslp_record.specs.declared.ChannelRecord.{ChannelRecord}
 use Rattle.uslp_record.specs.declared.Arrival.{Arrival}
 use Rattle.uslp_record.specs.declared.Arrival.the-variants as arrival
@@ -18,16 +18,10 @@ use Rattle.uslp_hearing.specs.declared.FrameArrival.{FrameArrival}
 use Rattle.uslp_hearing.specs.declared.FrameArrival.the-variants.{New, Repeat, Late}
 use Rattle.uslp_hearing.specs.declared.HearAnswer.{HearAnswer}
 use Rattle.uslp_hearing.specs.declared.HearAnswer.the-variants as hear-answer
-use Rattle.uslp_hearing.specs.declared.JudgeAnswer.{JudgeAnswer}
-use Rattle.uslp_hearing.specs.declared.JudgeAnswer.the-variants as judge-answer
 
 abbrev pub paperHear : HearAnswer → Outcome FrameArrival
 paperHear (hear-answer.Done a) = done a
 paperHear (hear-answer.Refused r) = refusal r
-
-abbrev pub paperJudge : JudgeAnswer → Outcome (FrameArrival × Change)
-paperJudge (judge-answer.Done arrival change) = done (arrival, change)
-paperJudge (judge-answer.Refused r) = refusal r
 
 -- how a frame names the channel that it is counted for
 abbrev pub Naming : Type 0
@@ -49,28 +43,21 @@ withFrame x (done y) = done (frameArrival x (y .0), y .1)
 withFrame x (refused k vs) = refused k vs
 
 module _ (name : Naming) where
-  -- a frame that was read is counted for its channel: 13, 14, 17
+  -- a frame that was read is counted for its channel: 10, 8, 13, 14, 17
   abbrev pub judgedBy : ChannelRecord → TransferFrame → Outcome (FrameArrival × Change)
   judgedBy r x =
       withFrame x
       (judging r (name (x .«primary_header»)) (x .«primary_header» .«vc_frame_count_len») (x .«primary_header» .«vc_frame_count»))
 
-  -- judging octets: any reader's refusal is the answer
-  abbrev pub judgingBy : ChannelRecord → List ℕ → Bool → Outcome (FrameArrival × Change)
-  judgingBy r s fecf = andThen (frameReading s fecf) (judgedBy r)
+  -- hearing octets: any reader's refusal is the answer, and a frame is counted
+  abbrev pub hearingBy : ChannelRecord → List ℕ → ManagedParameters → Kept FrameArrival
+  hearingBy r s managed = applied r (andThen (frameReading s managed) (judgedBy r))
 
-  -- hearing them takes the judgement over
-  abbrev pub hearingBy : ChannelRecord → List ℕ → Bool → Kept FrameArrival
-  hearingBy r s fecf = taken r (judgingBy r s fecf)
+-- the case here, which the promises cite: a frame that was read, and octets
+abbrev pub hearingOfFrame : ChannelRecord → TransferFrame → Kept FrameArrival
+hearingOfFrame r x = applied r (judgedBy channelOf r x)
 
--- the case here, which the promises cite
-abbrev pub judgedFrame : ChannelRecord → TransferFrame → Outcome (FrameArrival × Change)
-judgedFrame = judgedBy channelOf
-
-abbrev pub frameJudging : ChannelRecord → List ℕ → Bool → Outcome (FrameArrival × Change)
-frameJudging = judgingBy channelOf
-
-abbrev pub frameHearing : ChannelRecord → List ℕ → Bool → Kept FrameArrival
+abbrev pub frameHearing : ChannelRecord → List ℕ → ManagedParameters → Kept FrameArrival
 frameHearing = hearingBy channelOf
 
 -- what an answer hands on of the octets

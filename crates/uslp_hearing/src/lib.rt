@@ -1,18 +1,19 @@
 // Hearing a frame: it is read first, then counted; NEW hands its data on.
+use uslp_kinds::ManagedParameters;
 use uslp_kinds::Refusal;
 use uslp_primary_header::PrimaryHeader;
 use uslp_reader::FrameAnswer;
 use uslp_reader::TransferFrame;
 use uslp_record::Arrival;
-use uslp_record::Change;
+use uslp_record::ArrivalAnswer;
 use uslp_record::Channel;
 use uslp_record::ChannelRecord;
-use uslp_record::CountAnswer;
 ghost use mathlib.Core.Path.{_≡_};
 ghost use Rattle.uslp_octets.specs.Octets.{PartOf};
+ghost use Rattle.uslp_kinds.specs.Outcome.{done, andThen};
 ghost use Rattle.uslp_record.specs.Record.{keeping};
-ghost use Rattle.uslp_record.specs.Judging.{taken};
-ghost use Rattle.uslp_hearing.specs.Hearing.{channelOf, paperHear, paperJudge, frameArrival, judgedFrame, frameJudging, frameHearing, handedOn, handedAt};
+ghost use Rattle.uslp_record.specs.Judging.{paperArrival};
+ghost use Rattle.uslp_hearing.specs.Hearing.{channelOf, paperHear, frameArrival, hearingOfFrame, frameHearing, handedOn, handedAt};
 
 // What hearing a frame finds: NEW, with the frame and how many are missing before it, or nothing to hand on.
 pub enum FrameArrival {
@@ -32,36 +33,35 @@ pub struct Hearing {
     pub next: ChannelRecord,
 }
 
-// What hearing a frame finds, and what it changes.
-pub enum JudgeAnswer {
-    Done {
-        arrival: FrameArrival,
-        change: Change,
-    },
-    Refused(Refusal),
-}
-
 // Refuses what reading refuses, then NOT_OPEN, OTHER_WIDTH, TOTAL_FULL.
-pub fn hear(channels: ChannelRecord, buf: &[u8], has_fecf: bool) -> Hearing
-    ensures { λ r. ⌜ keeping (paperHear (r .answer)) (r .next) ≡ frameHearing channels (now (buf .entry)) «has_fecf» ⌝ }
+pub fn hear(channels: ChannelRecord, buf: &[u8], managed: ManagedParameters) -> Hearing
+    ensures { λ r. ⌜ keeping (paperHear (r .answer)) (r .next) ≡ frameHearing channels (now (buf .entry)) managed ⌝ }
 {
-    take_over(channels, judge(channels, buf, has_fecf))
+    match TransferFrame::from_bytes(buf, managed) {
+        FrameAnswer::Done(frame) => hear_frame(channels, frame),
+        FrameAnswer::Refused(refusal) => Hearing {
+            answer: HearAnswer::Refused(refusal),
+            next: channels,
+        },
+    }
 }
 
-// The same of a frame that was read already, so that it is not read twice: NOT_OPEN, OTHER_WIDTH, TOTAL_FULL.
+// The same of a frame that was read already, so that it is not read twice. Of a frame that no reading gives it refuses BAD_FIELD
+// for its width and BAD_COUNT for its count; then NOT_OPEN, OTHER_WIDTH, TOTAL_FULL.
 pub fn hear_frame(channels: ChannelRecord, frame: TransferFrame) -> Hearing
-    ensures { λ r. ⌜ keeping (paperHear (r .answer)) (r .next) ≡ taken channels (judgedFrame channels frame) ⌝ }
+    ensures { λ r. ⌜ keeping (paperHear (r .answer)) (r .next) ≡ hearingOfFrame channels frame ⌝ }
 {
-    take_over(channels, judge_frame(channels, frame))
-}
-
-// What hearing would answer, but the record is only read: whoever holds it takes the change over, by `with_change`.
-pub fn judge(channels: ChannelRecord, buf: &[u8], has_fecf: bool) -> JudgeAnswer
-    ensures { λ r. ⌜ paperJudge r ≡ frameJudging channels (now (buf .entry)) «has_fecf» ⌝ }
-{
-    match TransferFrame::from_bytes(buf, has_fecf) {
-        FrameAnswer::Done(frame) => judge_frame(channels, frame),
-        FrameAnswer::Refused(refusal) => JudgeAnswer::Refused(refusal),
+    let header = frame.primary_header;
+    let heard = channels.hear_count(
+        channel_of(header),
+        header.vc_frame_count_len,
+        header.vc_frame_count,
+    );
+    let counted = heard.answer;
+    let next = heard.next;
+    Hearing {
+        answer: with_frame(counted, frame),
+        next,
     }
 }
 
@@ -91,36 +91,13 @@ pub fn channel_of(header: PrimaryHeader) -> Channel
     }
 }
 
-fn take_over(channels: ChannelRecord, judged: JudgeAnswer) -> Hearing
-    ensures { λ r. ⌜ keeping (paperHear (r .answer)) (r .next) ≡ taken channels (paperJudge judged) ⌝ }
+// An answer to a count, with the frame that it is of.
+fn with_frame(answer: ArrivalAnswer, frame: TransferFrame) -> HearAnswer
+    ensures { λ r. ⌜ paperHear r ≡ andThen (paperArrival answer) (λ a. done (frameArrival frame a)) ⌝ }
 {
-    match judged {
-        JudgeAnswer::Done { arrival, change } => Hearing {
-            answer: HearAnswer::Done(arrival),
-            next: channels.with_change(change),
-        },
-        JudgeAnswer::Refused(refusal) => Hearing {
-            answer: HearAnswer::Refused(refusal),
-            next: channels,
-        },
-    }
-}
-
-fn judge_frame(channels: ChannelRecord, frame: TransferFrame) -> JudgeAnswer
-    ensures { λ r. ⌜ paperJudge r ≡ judgedFrame channels frame ⌝ }
-{
-    let header = frame.primary_header;
-    let counted = channels.judge_count(
-        channel_of(header),
-        header.vc_frame_count_len,
-        header.vc_frame_count,
-    );
-    match counted {
-        CountAnswer::Done { arrival, change } => JudgeAnswer::Done {
-            arrival: frame_arrival(arrival, frame),
-            change,
-        },
-        CountAnswer::Refused(refusal) => JudgeAnswer::Refused(refusal),
+    match answer {
+        ArrivalAnswer::Done(arrival) => HearAnswer::Done(frame_arrival(arrival, frame)),
+        ArrivalAnswer::Refused(refusal) => HearAnswer::Refused(refusal),
     }
 }
 

@@ -1,11 +1,12 @@
 -- The intake (docs/RULES.md, section 5.3): what a call answers, and what it leaves in the holding buffer.
 use Prim.Native.Nat.{ℕ, suc, _+_}
-use mathlib.Core.Bool.{Bool, cond}
+use mathlib.Core.Bool.{cond}
 use mathlib.Core.List.{List, [], _∷_, _++_}
 use lib.ListN.{length, take, drop}
 use lib.Dec.{ltb, eqb}
-use Rattle.uslp_kinds.specs.Outcome.{Outcome, done, refused, Written, written, firstOf}
+use Rattle.uslp_kinds.specs.Outcome.{Outcome, done, refused, Written, onlyIfDone, firstOf}
 use Rattle.uslp_kinds.specs.Answers.{refusalNumber, carried, refusal, short}
+use Rattle.uslp_kinds.specs.declared.ManagedParameters.{ManagedParameters}
 use Rattle.uslp_reader.specs.Reader.{frameReading}
 use Rattle.uslp_reader.specs.declared.TransferFrame.{TransferFrame}
 use Rattle.uslp_intake.specs.declared.IntakeAnswer.{IntakeAnswer}
@@ -38,13 +39,13 @@ heldBy before (done (stopped taken held k vs)) = held
 heldBy before (refused k vs) = before
 
 -- how many octets of a block are taken behind those held: one more as long as the reader's answer is SHORT_SOURCE
-unfoldable pub taking : Bool → List ℕ → List ℕ → ℕ
-taking fecf held [] = 0
-taking fecf held (o ∷ block) = cond (short (frameReading held fecf)) (suc (taking fecf (held ++ o ∷ []) block)) 0
+unfoldable pub taking : ManagedParameters → List ℕ → List ℕ → ℕ
+taking managed held [] = 0
+taking managed held (o ∷ block) = cond (short (frameReading held managed)) (suc (taking managed (held ++ o ∷ []) block)) 0
 
 -- what is then held
-abbrev pub gathered : Bool → List ℕ → List ℕ → List ℕ
-gathered fecf held block = held ++ take (taking fecf held block) block
+abbrev pub gathered : ManagedParameters → List ℕ → List ℕ → List ℕ
+gathered managed held block = held ++ take (taking managed held block) block
 
 -- and what the reader says of it: a frame is given out, SHORT_SOURCE waits, any other refusal stops
 abbrev pub deciding : Outcome TransferFrame → ℕ → ℕ → Intake
@@ -53,13 +54,13 @@ deciding (refused k vs) taken held = cond (eqb k 1) (waiting taken held) (stoppe
 
 -- a call over the octets s of the holding buffer: 10 for a held number above 65,536, then 2 for a buffer below it; the octets behind those that
 -- are then held stay
-unfoldable pub intaking : Bool → List ℕ → ℕ → List ℕ → Written Intake
-intaking fecf s held block =
-    let n = taking fecf (take held s) block in
-    let kept = gathered fecf (take held s) block in
-    written
+unfoldable pub intaking : ManagedParameters → List ℕ → ℕ → List ℕ → Written Intake
+intaking managed s held block =
+    let n = taking managed (take held s) block in
+    let kept = gathered managed (take held s) block in
+    onlyIfDone
     (firstOf
     ((ltb 65536 held, refused 10 []) ∷ (ltb (length s) 65536, refused 2 (length s ∷ 65536 ∷ [])) ∷ [])
-    (done (deciding (frameReading kept fecf) n (held + n))))
+    (done (deciding (frameReading kept managed) n (held + n))))
     (kept ++ drop (held + n) s)
     s

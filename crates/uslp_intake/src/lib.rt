@@ -1,5 +1,6 @@
 // The intake: octets come in blocks, cut anywhere, and frames go out as they become whole.
 use uslp_kinds::MAX_FRAME_LEN;
+use uslp_kinds::ManagedParameters;
 use uslp_kinds::Refusal;
 use uslp_octets::copy_octets;
 use uslp_reader::FrameAnswer;
@@ -69,8 +70,13 @@ impl IntakeAnswer {
 
 // Takes octets of the block behind those held, up to the one that decides; what is left of the block is to be offered again.
 // Refuses BAD_FIELD for a held number above MAX_FRAME_LEN, then SHORT_TARGET for a holding buffer below it.
-pub fn take_block(holding: &mut [u8], held: usize, block: &[u8], has_fecf: bool) -> IntakeAnswer
-    ensures { λ r. ⌜ leaving (paperIntake r) (now (holding .exit)) ≡ intaking «has_fecf» (now (holding .entry)) held (now (block .entry)) ⌝ }
+pub fn take_block(
+    holding: &mut [u8],
+    held: usize,
+    block: &[u8],
+    managed: ManagedParameters,
+) -> IntakeAnswer
+    ensures { λ r. ⌜ leaving (paperIntake r) (now (holding .exit)) ≡ intaking managed (now (holding .entry)) held (now (block .entry)) ⌝ }
 {
     if held > MAX_FRAME_LEN {
         return IntakeAnswer::Refused(Refusal::BadField);
@@ -82,18 +88,23 @@ pub fn take_block(holding: &mut [u8], held: usize, block: &[u8], has_fecf: bool)
             expected: MAX_FRAME_LEN,
         });
     }
-    take_wanted(holding, held, block, has_fecf)
+    take_wanted(holding, held, block, managed)
 }
 
 // Reads what is held, takes as many octets as the reader lacks, and reads again, until it decides or the block ends.
-fn take_wanted(holding: &mut [u8], held: usize, block: &[u8], has_fecf: bool) -> IntakeAnswer
+fn take_wanted(
+    holding: &mut [u8],
+    held: usize,
+    block: &[u8],
+    managed: ManagedParameters,
+) -> IntakeAnswer
     requires { ⌜ (held ≤ 65536) × (65536 ≤ length (now holding)) ⌝ }
-    ensures { λ r. ⌜ leaving (paperIntake r) (now (holding .exit)) ≡ intaking «has_fecf» (now (holding .entry)) held (now (block .entry)) ⌝ }
+    ensures { λ r. ⌜ leaving (paperIntake r) (now (holding .exit)) ≡ intaking managed (now (holding .entry)) held (now (block .entry)) ⌝ }
 {
     let mut taken: usize = 0;
     loop {
         let end = held + taken;
-        match TransferFrame::from_bytes(&holding[0..end], has_fecf) {
+        match TransferFrame::from_bytes(&holding[0..end], managed) {
             FrameAnswer::Done(frame) => {
                 return IntakeAnswer::Frame { taken, frame };
             }

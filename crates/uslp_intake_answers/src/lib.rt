@@ -5,6 +5,7 @@ use uslp_answers::say_field;
 use uslp_answers::say_refusal;
 use uslp_intake::IntakeAnswer;
 use uslp_intake::take_block;
+use uslp_kinds::ManagedParameters;
 use uslp_kinds::Refusal;
 use uslp_reader::TransferFrame;
 ghost use mathlib.Core.Path.{_≡_};
@@ -12,10 +13,10 @@ ghost use Rattle.uslp_intake.specs.Intake.{intaking};
 ghost use Rattle.uslp_intake_answers.specs.Fed.{fed};
 
 // How many octets of the block were taken, and the frame, or how many are held, with the refusal where the intake stops.
-pub fn feed(holding: &mut [u8], held: usize, block: &[u8], has_fecf: bool) -> usize
-    ensures { λ r. ⌜ fed held (intaking «has_fecf» (now (holding .entry)) held (now (block .entry))) ≡ (r, now (holding .exit)) ⌝ }
+pub fn feed(holding: &mut [u8], held: usize, block: &[u8], managed: ManagedParameters) -> usize
+    ensures { λ r. ⌜ fed held (intaking managed (now (holding .entry)) held (now (block .entry))) ≡ (r, now (holding .exit)) ⌝ }
 {
-    let answer = take_block(holding, held, block, has_fecf);
+    let answer = take_block(holding, held, block, managed);
     say_intake(answer, holding);
     answer.held(held)
 }

@@ -4,7 +4,7 @@ use mathlib.Core.Bool.{Bool, true, false, cond}
 use mathlib.Core.List.{List}
 use Prim.Native.Nat.{ℕ}
 use native.Mathlib.Omega.{arith}
-use Rattle.uslp_kinds.specs.Outcome.{Outcome, done, refused, andThen, leaving, written}
+use Rattle.uslp_kinds.specs.Outcome.{Outcome, done, refused, andThen, leaving, onlyIfDone}
 
 -- a refusal is no `done`
 pub not-done : {A : Type 0} {k : ℕ} {vs : List ℕ} {x : A} → refused k vs ≡ done x → ⊥
@@ -54,11 +54,11 @@ then-refused (refused j ws) g e = refused-any e
 
 -- a writing that was done leaves the new octets
 pub written-done : {A : Type 0} (o : Outcome A) (new found : List ℕ) {x : A} {s : List ℕ}
-    → written o new found ≡ leaving (done x) s → (o ≡ done x) × (new ≡ s)
+    → onlyIfDone o new found ≡ leaving (done x) s → (o ≡ done x) × (new ≡ s)
 written-done (done y) new found e = (cc, cc)
 written-done (refused k vs) new found e = let z : _≡_ {A = ℕ} 0 1 = cc in absurd (omega arith)
 
 -- and one that was refused leaves those that it found
-pub refused-keeps : {A : Type 0} (o : Outcome A) (new found : List ℕ) {k : ℕ} {vs s : List ℕ} → written o new found ≡ leaving (refused k vs) s → s ≡ found
+pub refused-keeps : {A : Type 0} (o : Outcome A) (new found : List ℕ) {k : ℕ} {vs s : List ℕ} → onlyIfDone o new found ≡ leaving (refused k vs) s → s ≡ found
 refused-keeps (done y) new found e = let z : _≡_ {A = ℕ} 0 1 = cc in absurd (omega arith)
 refused-keeps (refused j ws) new found e = cc

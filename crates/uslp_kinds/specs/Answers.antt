@@ -83,6 +83,11 @@ abbrev pub paperLength : LengthAnswer → Outcome ℕ
 paperLength (length-answer.Done n) = done n
 paperLength (length-answer.Refused r) = refusal r
 
+-- how many octets a call wrote: none where it was refused
+abbrev pub lengthOf : Outcome ℕ → ℕ
+lengthOf (done n) = n
+lengthOf (refused k vs) = 0
+
 abbrev pub paperProtocol : ProtocolIdAnswer → Outcome UslpProtocolId
 paperProtocol (protocol-answer.Done p) = done p
 paperProtocol (protocol-answer.Refused r) = refusal r

@@ -1,9 +1,9 @@
 -- The number of each case of a field, and the case of a number: a field of one bit or three bits is read from a number's low bits.
-use Prim.Native.Nat.{ℕ, _%_}
+use Prim.Native.Nat.{ℕ, _%_, _^_}
 use mathlib.Core.Bool.{Bool, cond}
 use mathlib.Core.List.{List, [], _∷_}
 use lib.ListN.{getD}
-use lib.Dec.{ltb, eqb}
+use lib.Dec.{ltb, leb, eqb}
 use Rattle.uslp_kinds.specs.Outcome.{Outcome, done, refused}
 use Rattle.uslp_kinds.specs.declared.SourceOrDestField.{SourceOrDestField}
 use Rattle.uslp_kinds.specs.declared.SourceOrDestField.the-variants.{Source, Dest}
@@ -88,3 +88,7 @@ protocols =
 -- ids 0 to 8 and 31 are known
 abbrev pub protocolOf : ℕ → Outcome UslpProtocolId
 protocolOf n = cond (ltb n 9) (done (getD protocols n Idle)) (cond (eqb n 31) (done Idle) (refused 5 (n ∷ [])))
+
+-- a count must be below 256 to the power of its width
+abbrev pub countBad : ℕ → ℕ → Bool
+countBad width count = leb (256 ^ width) count

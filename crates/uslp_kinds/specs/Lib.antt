@@ -1,3 +1,4 @@
 pub mod Outcome
 pub mod Kinds
 pub mod Answers
+pub mod Managed

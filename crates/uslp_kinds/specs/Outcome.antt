@@ -18,9 +18,9 @@ pub data Written (A : Type 0) : Type 0 where
   leaving : Outcome A → List ℕ → Written A
 
 -- a call that writes: done, it leaves the octets `new`; refused, it leaves those that it found
-abbrev pub written : {A : Type 0} → Outcome A → List ℕ → List ℕ → Written A
-written (done x) new found = leaving (done x) new
-written (refused k vs) new found = leaving (refused k vs) found
+abbrev pub onlyIfDone : {A : Type 0} → Outcome A → List ℕ → List ℕ → Written A
+onlyIfDone (done x) new found = leaving (done x) new
+onlyIfDone (refused k vs) new found = leaving (refused k vs) found
 
 -- the first check that fails decides; where none fails, the last word stands
 abbrev pub firstOf {ℓ} : {A : Type ℓ} → List (Bool × A) → A → A

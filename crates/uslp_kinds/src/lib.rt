@@ -1,7 +1,9 @@
 // The refusals of the library, the kinds of field that a frame carries, and the answers that carry nothing, a number or an id.
+use uslp_octets::part;
 ghost use mathlib.Core.Path.{_≡_};
 ghost use Rattle.uslp_kinds.specs.Kinds.{sourceOrDestNumber, sourceOrDestOf, bypassNumber, bypassOf, commandNumber, commandOf, ruleNumber, ruleOf, fixedLength, protocolNumber, protocolOf};
-ghost use Rattle.uslp_kinds.specs.Answers.{refusalNumber, lackingOf, paperProtocol};
+ghost use Rattle.uslp_octets.specs.Octets.{PartOf, partIn, partAt};
+ghost use Rattle.uslp_kinds.specs.Answers.{refusalNumber, lackingOf, lengthOf, paperLength, paperProtocol};
 
 // The largest values of the fields that a number can be too large for, and the most octets of a frame.
 pub const MAX_VC_ID: u8 = 63;
@@ -11,6 +13,16 @@ pub const MAX_MAP_ID: u8 = 15;
 pub const MAX_COUNT_LEN: u8 = 7;
 
 pub const MAX_FRAME_LEN: usize = 65536;
+
+// What both ends of a link agree on beforehand, which no frame says.
+pub struct ManagedParameters {
+    pub has_fecf: bool,
+}
+
+// The two everyday values.
+pub const WITH_FECF: ManagedParameters = ManagedParameters { has_fecf: true };
+
+pub const NO_FECF: ManagedParameters = ManagedParameters { has_fecf: false };
 
 // Whether the spacecraft id names the source or the destination of the frame.
 pub enum SourceOrDestField {
@@ -303,5 +315,20 @@ impl UslpProtocolId {
             UslpProtocolId::Proximity1PseudoPacketIdentifier2 => 8,
             UslpProtocolId::Idle => 31,
         }
+    }
+}
+
+// The octets that a call wrote to the front of a buffer, as a part of it: nothing where it was refused.
+pub fn written(answer: LengthAnswer, buf: &[u8]) -> &[u8]
+    ensures { λ r. ⌜
+        PartOf (buf .entry)
+        (partAt 0 (lengthOf (paperLength answer)) (now (buf .entry)))
+        (partIn 0 (lengthOf (paperLength answer)) (now (buf .entry)))
+        r
+        ⌝ }
+{
+    match answer {
+        LengthAnswer::Done(n) => part(buf, 0, n),
+        LengthAnswer::Refused(_) => part(buf, 0, 0),
     }
 }

@@ -7,6 +7,7 @@ use mathlib.Core.List.{List, [], _++_}
 use lib.ListN.{length}
 use Rattle.uslp_octets.specs.Octets.{AreOctets, octets, pack}
 use Rattle.uslp_checksum.specs.Checksum.{checksumOf}
+use Rattle.uslp_kinds.specs.declared.ManagedParameters.{ManagedParameters}
 use Rattle.uslp_kinds.specs.declared.OperationalControlField.{OperationalControlField}
 use Rattle.uslp_kinds.specs.declared.OperationalControlField.the-variants.{Absent, Present}
 use Rattle.uslp_primary_header.specs.Header.{table, lenHeader, lenFrame}
@@ -16,13 +17,20 @@ use Rattle.uslp_data_field_header.specs.Field.{fieldTable, lenField}
 use Rattle.uslp_data_field_header.specs.Field as field
 use Rattle.uslp_data_field_header.specs.declared.TransferFrameDataFieldHeader.{TransferFrameDataFieldHeader}
 
+-- what a frame is laid out from
+pub record Fields : Type 0 where
+  pub header : PrimaryHeader
+  pub field : TransferFrameDataFieldHeader
+  pub contents : List ℕ
+  pub ocf : OperationalControlField
+
 -- where data starts
 abbrev pub dataStart : PrimaryHeader → TransferFrameDataFieldHeader → ℕ
 dataStart h f = lenHeader h + lenField f
 
 -- what a frame needs besides its data: headers, OCF and FECF
-abbrev pub needed : PrimaryHeader → TransferFrameDataFieldHeader → Bool → ℕ
-needed h f fecf = dataStart h f + cond (h .«ocf_flag») 4 0 + cond fecf 2 0
+abbrev pub needed : PrimaryHeader → TransferFrameDataFieldHeader → ManagedParameters → ℕ
+needed h f managed = dataStart h f + cond (h .«ocf_flag») 4 0 + cond (managed .«has_fecf») 2 0
 
 abbrev pub present : OperationalControlField → Bool
 present Absent = false
@@ -33,22 +41,22 @@ ocfOctets Absent = []
 ocfOctets (Present n) = octets 4 n
 
 -- the octets before the FECF; the header's spare bits are a parameter
-abbrev pub body : ℕ → PrimaryHeader → TransferFrameDataFieldHeader → List ℕ → OperationalControlField → List ℕ
-body spare h f contents ocf = pack (table spare h) ++ (pack (fieldTable f) ++ (contents ++ ocfOctets ocf))
+abbrev pub body : ℕ → Fields → List ℕ
+body spare x = pack (table spare (x .header)) ++ (pack (fieldTable (x .field)) ++ (x .contents ++ ocfOctets (x .ocf)))
 
 -- the FECF is the checksum of all octets before it
 abbrev pub withFecf : Bool → List ℕ → List ℕ
 withFecf true s = s ++ octets 2 (checksumOf s)
 withFecf false s = s
 
-abbrev pub layout : Bool → ℕ → PrimaryHeader → TransferFrameDataFieldHeader → List ℕ → OperationalControlField → List ℕ
-layout fecf spare h f contents ocf = withFecf fecf (body spare h f contents ocf)
+abbrev pub layout : ManagedParameters → ℕ → Fields → List ℕ
+layout managed spare x = withFecf (managed .«has_fecf») (body spare x)
 
 -- fields that make a frame: each fits its place, the OCF flag says whether there is one, and the length is the total
-pub record WellFormed (fecf : Bool) (h : PrimaryHeader) (f : TransferFrameDataFieldHeader) (contents : List ℕ) (ocf : OperationalControlField) : Type 0 where
-  pub header-fits : header.Fitting h
-  pub field-fits : field.Fitting f
-  pub contents-fit : AreOctets contents
-  pub ocf-fits : (n : ℕ) → ocf ≡ Present n → n < 2 ^ 32
-  pub ocf-flagged : h .«ocf_flag» ≡ present ocf
-  pub is-total : lenFrame h ≡ needed h f fecf + length contents
+pub record WellFormed (managed : ManagedParameters) (x : Fields) : Type 0 where
+  pub header-fits : header.Fitting (x .header)
+  pub field-fits : field.Fitting (x .field)
+  pub contents-fit : AreOctets (x .contents)
+  pub ocf-fits : (n : ℕ) → x .ocf ≡ Present n → n < 2 ^ 32
+  pub ocf-flagged : x .header .«ocf_flag» ≡ present (x .ocf)
+  pub is-total : lenFrame (x .header) ≡ needed (x .header) (x .field) managed + length (x .contents)

@@ -1,5 +1,6 @@
 // Where the parts of a frame stand: one function for each sentence that says so.
 use uslp_data_field_header::TransferFrameDataFieldHeader;
+use uslp_kinds::ManagedParameters;
 use uslp_primary_header::PrimaryHeader;
 ghost use mathlib.Core.Path.{_≡_};
 ghost use mathlib.Core.Bool.{cond};
@@ -16,11 +17,11 @@ pub fn data_start(header: PrimaryHeader, field: TransferFrameDataFieldHeader) ->
 pub fn needed_len(
     header: PrimaryHeader,
     field: TransferFrameDataFieldHeader,
-    has_fecf: bool,
+    managed: ManagedParameters,
 ) -> usize
-    ensures { λ r. ⌜ r ≡ needed header field «has_fecf» ⌝ }
+    ensures { λ r. ⌜ r ≡ needed header field managed ⌝ }
 {
-    data_start(header, field) + ocf_len(header.ocf_flag) + fecf_len(has_fecf)
+    data_start(header, field) + ocf_len(header.ocf_flag) + fecf_len(managed.has_fecf)
 }
 
 fn ocf_len(has_ocf: bool) -> usize

@@ -7,7 +7,7 @@ use Rattle.uslp_reader.specs.Reader.{paperFrame}
 use Rattle.uslp_reader.specs.declared.TransferFrame.{TransferFrame}
 use Rattle.uslp_reader.specs.declared.FrameAnswer.{FrameAnswer}
 use Rattle.uslp_reader.specs.declared.FrameAnswer.the-variants as frame-answer
-use Rattle.uslp_lent.specs.Kept.{ofFrame}
+use Rattle.uslp_lent.specs.Accessors.{ofFrame}
 
 module _ {A : Type 0} (part : TransferFrame → A) (a : FrameAnswer) where
   pub done-arm : (x : TransferFrame) (v : A) → a ≡ frame-answer.Done x → v ≡ part x → done v ≡ ofFrame part (paperFrame a)

@@ -1,7 +1,7 @@
 -- An answer of an accessor has a way back from paper.
 use mathlib.Core.Path.{_≡_, refl, ap}
 use Rattle.uslp_kinds.proofs.Back.{back, refusal-back}
-use Rattle.uslp_lent.specs.Kept.{paperId, paperRole, paperOcf}
+use Rattle.uslp_lent.specs.Accessors.{paperId, paperRole, paperOcf}
 use Rattle.uslp_lent.specs.declared.reader.IdAnswer.{IdAnswer}
 use Rattle.uslp_lent.specs.declared.reader.IdAnswer.the-variants as id-answer
 use Rattle.uslp_lent.specs.declared.reader.RoleAnswer.{RoleAnswer}

@@ -1,6 +1,6 @@
 -- `fn f(self) -> R { g(self.raw, self.found) }` over a struct that holds a slice of octets and a plain struct, walked once for
 -- every such struct, every covered g and every type of result R.
-use mathlib.Core.Path.{_≡_, refl, sym, subst}
+use mathlib.Core.Path.{_≡_, refl, sym}
 use Prim.Native.Nat.{ℕ}
 use mathlib.Core.List.{[], _∷_, List}
 use lib.Dec.{T as Holds}
@@ -46,7 +46,8 @@ use denote.Triple.Entry.{onEntry}
 use denote.Triple.Spec.{Meets, tripleOf}
 use denote.Triple.Table.{entered, cited}
 use denote.Triple.Walked.{says, Stays, stay-none, walkOf, goes-none, Walks, ends-at, walked, walk-meets}
-use denote.Exit.{Exit, Last, left, yes}
+use denote.Exit.{yes}
+use Rattle.uslp_lent.proofs.Param.{copy-end, copy-silent}
 
 -- a type of result: its slot, its machine type, and that its values have it
 pub record Result : Type 2 where
@@ -140,11 +141,6 @@ module _ (holder : Holder) where
   nv f = LL.val N LN f
 
   -- at exit nothing is said of it: it is Copy
-  d-end : (κs : Lfts 1) (x : X) → Last (B κs .exit yes) x
-  d-end κs x = subst (λ (e : Exit X). Last e x) (sym (LL.still (D κs) (CT (namedLft 1 0 tt κs)) yes)) tt
-
-  d-silent : (κs : Lfts 1) (x : X) (f : Last (B κs .exit yes) x) → left (B κs .exit yes) x f ≡ ftrue
-  d-silent κs x = subst (λ (e : Exit X). (f : Last e x) → left e x f ≡ ftrue) (sym (LL.still (D κs) (CT (namedLft 1 0 tt κs)) yes)) (λ f. refl)
 
   -- Φ: what g says of the slice, the plain struct and its result
   module _ (R : Result) (Φ : (κs : Lfts 1) → RefT (List ℕ) → N .D → R .slot .row κs .Denot → Type 0) where
@@ -230,7 +226,7 @@ module _ (holder : Holder) where
         exits r u e =
             qed W (‵ (Row .own r (u ∷ [])) ∷ (‵ (flft κ q) ⊛ ‵ ftrue) ∷ ‵ Own ∷ []) ∵
             suffices ! _ (ends-at 𝓤 H A f-ended f-stayed f-clauses W (((κ, tt), (q, tt), tt, (d, tt), (mach κ d ∷ [], tt)), tt) u r
-            (d-end (κ, tt) d, tt) (tt, tt)) $ says ! e $
+            (copy-end (D (κ, tt)) (CT (namedLft 1 0 tt (κ, tt))) d, tt) (tt, tt)) $ says ! e $
             move ! (1 ∷ []) $ frame ! $ nothing ! $ move ! (2 ∷ 0 ∷ []) $ fjoin ! $ frame ! $ done !
 
         walk : (g : Name) (C : Calls 𝓤 H) (Λ : Loops 𝓤 H) → FmC 𝓤 H (W .laws) C → Triple 𝓤 (C g) OfParts → Is (B (κ, tt)) d (mach κ d ∷ [])
@@ -266,7 +262,7 @@ module _ (holder : Holder) where
         pub shows-by : (g : Name) (𝓣 : Tables 𝓤 H) → Triple 𝓤 (𝓣 .C g) OfParts
             → Meets 𝓤 H A (f-ended .signature) (WpFn 𝓤 H (𝓣 .C) (𝓣 .Λ) (f-code g)) (closing 𝓤 H A f-ended f-clauses)
         shows-by g 𝓣 known =
-            walk-meets 𝓤 H A f-ended f-stayed W (goes-none 𝓤 H A W 1 B yes d-silent, tt) f-clauses (WpFn 𝓤 H (𝓣 .C) (𝓣 .Λ) (f-code g))
+            walk-meets 𝓤 H A f-ended f-stayed W (goes-none 𝓤 H A W 1 B yes (λ κs. copy-silent (D κs) (CT (namedLft 1 0 tt κs))), tt) f-clauses (WpFn 𝓤 H (𝓣 .C) (𝓣 .Λ) (f-code g))
             (WpFn-mono 𝓤 H (W .laws) 𝓣 (f-code g))
             (walks g (𝓣 .C) (𝓣 .Λ) (fmOf 𝓤 H (W .laws) 𝓣) known)
 

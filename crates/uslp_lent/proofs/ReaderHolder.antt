@@ -1,12 +1,15 @@
--- The reader, as the walks over a struct that holds a slice take it, and the types of what its functions return.
+-- The reader, as the walks over a struct that holds a slice take it, and the types of what its functions take and return.
 use mathlib.Core.Path.{_≡_, refl}
 use Prim.Native.Nat.{ℕ}
 use mathlib.Core.List.{List, []}
 use mir.Syntax.{erased}
 use contract.Lifetimes.{Lfts}
 use denote.Ref.{RefT}
+use Rattle.uslp_lent.proofs.Param.{Param, struct}
 use Rattle.uslp_lent.proofs.Held.{Holder, Result, variants}
 use Rattle.uslp_kinds.specs.Outcome.{Outcome}
+use Rattle.uslp_kinds.proofs.ManagedParameters as Managed
+use Rattle.uslp_kinds.proofs.ManagedParameters.Laws as Managed′
 use Rattle.uslp_kinds.proofs.LengthAnswer as Length
 use Rattle.uslp_kinds.proofs.LengthAnswer.Laws as Length′
 use Rattle.uslp_primary_header.proofs.HeaderAnswer as Header
@@ -17,7 +20,7 @@ use Rattle.uslp_reader.specs.Reader.{paperFrame}
 use Rattle.uslp_reader.specs.declared.TransferFrame.{TransferFrame}
 use Rattle.uslp_reader.proofs.FrameAnswer as Frame
 use Rattle.uslp_reader.proofs.FrameAnswer.Laws as Frame′
-use Rattle.uslp_lent.specs.Kept.{ofFrame}
+use Rattle.uslp_lent.specs.Accessors.{ofFrame}
 use Rattle.uslp_lent.specs.declared.reader.FrameFound.{FrameFound}
 use Rattle.uslp_lent.specs.declared.reader.TransferFrameReader.{TransferFrameReader}
 use Rattle.uslp_lent.proofs.reader.IdAnswer as Id
@@ -45,6 +48,9 @@ reader = record {
   make = λ s n. record { raw = s; found = n };
   beta = λ s n. refl;
 }
+
+abbrev pub managed-parameters : Param
+managed-parameters = struct Managed.the-type Managed′.the-laws Managed′.the-plain Managed′.the-copy
 
 abbrev pub frame-answer : Result
 frame-answer = variants Frame.the-type Frame′.the-laws tt

@@ -1,2 +1,2 @@
 pub mod Setting
-pub mod Kept
+pub mod Accessors

@@ -5,6 +5,7 @@ use super::reader::OcfAnswer;
 use super::reader::RoleAnswer;
 use uslp_data_field_header::DataFieldHeaderAnswer;
 use uslp_kinds::LengthAnswer;
+use uslp_kinds::ManagedParameters;
 use uslp_primary_header::HeaderAnswer;
 use uslp_reader::FrameAnswer;
 use uslp_reader::TransferFrame;
@@ -14,13 +15,13 @@ ghost use Rattle.uslp_kinds.specs.Answers.{paperLength};
 ghost use Rattle.uslp_primary_header.specs.Header.{paperHeader, lenFrame};
 ghost use Rattle.uslp_data_field_header.specs.Field.{paperField};
 ghost use Rattle.uslp_reader.specs.Reader.{paperFrame, frameReading, contentsRead, contentsReadAt};
-ghost use Rattle.uslp_lent.specs.Kept.{ofFrame, paperId, paperRole, paperOcf};
+ghost use Rattle.uslp_lent.specs.Accessors.{ofFrame, paperId, paperRole, paperOcf};
 
-pub(crate) fn find(buf: &[u8], has_fecf: bool) -> FrameFound
-    ensures { λ r. ⌜ paperFrame (r .answer) ≡ frameReading (now (buf .entry)) «has_fecf» ⌝ }
+pub(crate) fn find(buf: &[u8], managed: ManagedParameters) -> FrameFound
+    ensures { λ r. ⌜ paperFrame (r .answer) ≡ frameReading (now (buf .entry)) managed ⌝ }
 {
     FrameFound {
-        answer: TransferFrame::from_bytes(buf, has_fecf),
+        answer: TransferFrame::from_bytes(buf, managed),
     }
 }
 

@@ -2,6 +2,7 @@
 use super::parts;
 use uslp_data_field_header::DataFieldHeaderAnswer;
 use uslp_kinds::LengthAnswer;
+use uslp_kinds::ManagedParameters;
 use uslp_kinds::OperationalControlField;
 use uslp_kinds::Refusal;
 use uslp_kinds::SourceOrDestField;
@@ -14,7 +15,7 @@ ghost use Rattle.uslp_kinds.specs.Answers.{paperLength};
 ghost use Rattle.uslp_primary_header.specs.Header.{paperHeader, lenFrame};
 ghost use Rattle.uslp_data_field_header.specs.Field.{paperField};
 ghost use Rattle.uslp_reader.specs.Reader.{paperFrame, frameReading, contentsRead, contentsReadAt};
-ghost use Rattle.uslp_lent.specs.Kept.{ofFrame, paperId, paperRole, paperOcf};
+ghost use Rattle.uslp_lent.specs.Accessors.{ofFrame, paperId, paperRole, paperOcf};
 
 // The frame that was read, or why it was refused: plain, so that it can stand beside the octets.
 pub struct FrameFound {
@@ -46,12 +47,12 @@ pub enum OcfAnswer {
 // Every accessor but `raw_frame` and `data` answers the reader's refusal where there is no frame, so that none is mistaken for one.
 impl<'a> TransferFrameReader<'a> {
     // The refusals are those of TransferFrame::from_bytes, and `answer` shows them.
-    pub fn from_bytes(buf: &'a [u8], has_fecf: bool) -> TransferFrameReader<'a>
-        ensures { λ r. ⌜ (r .raw ≡ buf .entry) × (paperFrame (r .found .answer) ≡ frameReading (now (buf .entry)) «has_fecf») ⌝ }
+    pub fn from_bytes(buf: &'a [u8], managed: ManagedParameters) -> TransferFrameReader<'a>
+        ensures { λ r. ⌜ (r .raw ≡ buf .entry) × (paperFrame (r .found .answer) ≡ frameReading (now (buf .entry)) managed) ⌝ }
     {
         TransferFrameReader {
             raw: buf,
-            found: parts::find(buf, has_fecf),
+            found: parts::find(buf, managed),
         }
     }
 
@@ -130,19 +131,19 @@ impl<'a> TransferFrameReader<'a> {
 }
 
 // Plain parameters and a plain result: whoever calls this needs no walk.
-pub fn frame_data<'a>(buf: &'a [u8], has_fecf: bool) -> &'a [u8]
+pub fn frame_data<'a>(buf: &'a [u8], managed: ManagedParameters) -> &'a [u8]
     ensures { λ r. ⌜
         PartOf (buf .entry)
-        (contentsReadAt (frameReading (now (buf .entry)) «has_fecf») (now (buf .entry)))
-        (contentsRead (frameReading (now (buf .entry)) «has_fecf») (now (buf .entry)))
+        (contentsReadAt (frameReading (now (buf .entry)) managed) (now (buf .entry)))
+        (contentsRead (frameReading (now (buf .entry)) managed) (now (buf .entry)))
         r
         ⌝ }
 {
-    TransferFrameReader::from_bytes(buf, has_fecf).data()
+    TransferFrameReader::from_bytes(buf, managed).data()
 }
 
-pub fn frame_data_len(buf: &[u8], has_fecf: bool) -> usize
-    ensures { λ r. ⌜ r ≡ length (contentsRead (frameReading (now (buf .entry)) «has_fecf») (now (buf .entry))) ⌝ }
+pub fn frame_data_len(buf: &[u8], managed: ManagedParameters) -> usize
+    ensures { λ r. ⌜ r ≡ length (contentsRead (frameReading (now (buf .entry)) managed) (now (buf .entry))) ⌝ }
 {
-    frame_data(buf, has_fecf).len()
+    frame_data(buf, managed).len()
 }

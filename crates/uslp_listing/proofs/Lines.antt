@@ -1,13 +1,14 @@
 -- What the definitions of the listing say, path by path, and how long its lines are.
 use mathlib.Core.Path.{_≡_, refl, ap, ap₂, sym, _∙_}
 use Prim.Native.Nat.{ℕ, suc, _+_, _-_, _^_, _<_, _≤_}
-use mathlib.Core.Bool.{Bool, false, cond}
+use mathlib.Core.Bool.{Bool, cond}
 use mathlib.Core.List.{List, [], _∷_, _++_, append-assoc}
 use native.Mathlib.Nat.{zero-add}
 use native.Mathlib.Omega.{arith}
 use borrow.Author.Tests.{lt-ltb, le-ltb}
 use lib.Dec.{ltb}
 use lib.ListN.{length, drop, length-append, length-drop}
+use Rattle.uslp_kinds.specs.Managed.{noFecf}
 use Rattle.uslp_kinds.specs.Outcome.{Outcome, done, refused, leaving}
 use Rattle.uslp_kinds.proofs.Outcomes.{done-one, passed, written-done}
 use Rattle.uslp_primary_header.specs.Header.{lenFrame}
@@ -19,10 +20,10 @@ use Rattle.uslp_reader.proofs.EndToEnd.{nothing, cut-refused, cut-more, cut-end
 use Rattle.uslp_text.specs.Text.{decimal, Told}
 use Rattle.uslp_text.proofs.Width.{decimal-short}
 use Rattle.uslp_text.proofs.Telling.{told-whole}
-use Rattle.uslp_listing.specs.Listing.{heading, word, line, summary, lines, answerOf, linesOf, listing, room, listingOver}
+use Rattle.uslp_listing.specs.Listing.{heading, spaced, line, summary, lines, answerOf, linesOf, listing, room, listingOver}
 
-word-short : (k n : ℕ) → n < 10 ^ suc k → length (word n) ≤ 2 + k
-word-short k n h = omega (arith, decimal-short k n h, length-append (decimal n) (32 ∷ []))
+spaced-short : (k n : ℕ) → n < 10 ^ suc k → length (spaced n) ≤ 2 + k
+spaced-short k n h = omega (arith, decimal-short k n h, length-append (decimal n) (32 ∷ []))
 
 -- what the machine's numbers hold
 pub record Small (x : TransferFrame) : Type 0 where
@@ -40,14 +41,14 @@ pub line-short : (place : ℕ) (x : TransferFrame) → place ≤ 65536 → lenFr
     → length (line place x) ≤ 64
 line-short place x h long contents k =
     let hd = x .«primary_header» in
-    let sum = sum-seven (word place) (word (lenFrame hd)) (word (hd .«spacecraft_id»)) (word (hd .«vc_id»)) (word (hd .«map_id»))
-    (word (hd .«vc_frame_count»)) (decimal (x .«data_len») ++ (10 ∷ [])) in
-    let a = word-short 4 place (omega arith) in
-    let b = word-short 4 (lenFrame hd) (omega arith) in
-    let c = word-short 4 (hd .«spacecraft_id») (omega (arith, k .spacecraft)) in
-    let d = word-short 2 (hd .«vc_id») (omega (arith, k .channel)) in
-    let e = word-short 2 (hd .«map_id») (omega (arith, k .map)) in
-    let f = word-short 19 (hd .«vc_frame_count») (omega (arith, k .count)) in
+    let sum = sum-seven (spaced place) (spaced (lenFrame hd)) (spaced (hd .«spacecraft_id»)) (spaced (hd .«vc_id»)) (spaced (hd .«map_id»))
+    (spaced (hd .«vc_frame_count»)) (decimal (x .«data_len») ++ (10 ∷ [])) in
+    let a = spaced-short 4 place (omega arith) in
+    let b = spaced-short 4 (lenFrame hd) (omega arith) in
+    let c = spaced-short 4 (hd .«spacecraft_id») (omega (arith, k .spacecraft)) in
+    let d = spaced-short 2 (hd .«vc_id») (omega (arith, k .channel)) in
+    let e = spaced-short 2 (hd .«map_id») (omega (arith, k .map)) in
+    let f = spaced-short 19 (hd .«vc_frame_count») (omega (arith, k .count)) in
     let g = decimal-short 4 (x .«data_len») (omega arith) in
     let z = length-append (decimal (x .«data_len»)) (10 ∷ []) in
     omega arith
@@ -62,28 +63,28 @@ summary-short frames place answer h k l =
 -- what is told of the octets s from a place on, after so many frames
 unfoldable pub linesFrom : ℕ → ℕ → List ℕ → List ℕ
 linesFrom place frames s =
-    let c = cut false s in
-    lines place (c .frames) ++ summary (frames + length (c .frames)) (place + (length s - length (c .rest))) (answerOf (stopping false (c .rest)))
+    let c = cut noFecf s in
+    lines place (c .frames) ++ summary (frames + length (c .frames)) (place + (length s - length (c .rest))) (answerOf (stopping noFecf (c .rest)))
 
 -- by what is cut off
-lines-by : (place frames : ℕ) (s : List ℕ) {c : Cut} → cut false s ≡ c
+lines-by : (place frames : ℕ) (s : List ℕ) {c : Cut} → cut noFecf s ≡ c
     → linesFrom place frames s
-    ≡ lines place (c .frames) ++ summary (frames + length (c .frames)) (place + (length s - length (c .rest))) (answerOf (stopping false (c .rest)))
+    ≡ lines place (c .frames) ++ summary (frames + length (c .frames)) (place + (length s - length (c .rest))) (answerOf (stopping noFecf (c .rest)))
 unfolding linesFrom
 lines-by place frames s e =
     ap (λ (c : Cut). lines place (c .frames) ++ summary (frames + length (c .frames)) (place + (length s - length (c .rest)))
-    (answerOf (stopping false (c .rest)))) e
+    (answerOf (stopping noFecf (c .rest)))) e
 
 pub lines-all : (s : List ℕ) → linesFrom 0 0 s ≡ linesOf s
 unfolding linesFrom
 lines-all s =
-    let c = cut false s in
-    ap₂ (λ (a b : ℕ). lines 0 (c .frames) ++ summary a b (answerOf (stopping false (c .rest)))) (zero-add (length (c .frames)))
+    let c = cut noFecf s in
+    ap₂ (λ (a b : ℕ). lines 0 (c .frames) ++ summary a b (answerOf (stopping noFecf (c .rest)))) (zero-add (length (c .frames)))
     (zero-add (length s - length (c .rest)))
 
 -- the lines behind a reading: at the end, at a frame, at a refusal
 module _ (place frames : ℕ) where
-  none : {s : List ℕ} {k : ℕ} → cut false s ≡ nothing s → answerOf (stopping false s) ≡ k → linesFrom place frames s ≡ summary frames place k
+  none : {s : List ℕ} {k : ℕ} → cut noFecf s ≡ nothing s → answerOf (stopping noFecf s) ≡ k → linesFrom place frames s ≡ summary frames place k
   unfolding lines
   none {s} {k} c e =
       let a : frames + 0 ≡ frames = omega arith in
@@ -92,27 +93,27 @@ module _ (place frames : ℕ) where
       ∙ ap₂ (λ (m n : ℕ). summary m n k) a b
 
   pub lines-end : linesFrom place frames [] ≡ summary frames place 0
-  lines-end = none (cut-end false) refl
+  lines-end = none (cut-end noFecf) refl
 
-  pub lines-refused : (s : List ℕ) {k : ℕ} {vs : List ℕ} → 0 < length s → frameReading s false ≡ refused k vs
+  pub lines-refused : (s : List ℕ) {k : ℕ} {vs : List ℕ} → 0 < length s → frameReading s noFecf ≡ refused k vs
       → linesFrom place frames s ≡ summary frames place k
-  lines-refused s h e = none (cut-refused false s e) (ap answerOf (stopping-refused false s h e))
+  lines-refused s h e = none (cut-refused noFecf s e) (ap answerOf (stopping-refused noFecf s h e))
 
-  pub lines-more : (s : List ℕ) (x : TransferFrame) → frameReading s false ≡ done x
+  pub lines-more : (s : List ℕ) (x : TransferFrame) → frameReading s noFecf ≡ done x
       → linesFrom place frames s
       ≡ line place x ++ linesFrom (place + lenFrame (x .«primary_header»)) (frames + 1) (drop (lenFrame (x .«primary_header»)) s)
   unfolding lines linesFrom
   lines-more s x e =
       let n = lenFrame (x .«primary_header») in
-      let c = cut false (drop n s) in
+      let c = cut noFecf (drop n s) in
       let less = length-drop n s in
-      let short = rest-short false (drop n s) in
-      let whole = read-done s false x e .whole in
+      let short = rest-short noFecf (drop n s) in
+      let whole = read-done s noFecf x e .whole in
       let a : frames + suc (length (c .frames)) ≡ frames + 1 + length (c .frames) = omega arith in
       let b : place + (length s - length (c .rest)) ≡ place + n + (length (drop n s) - length (c .rest)) = omega arith in
-      lines-by place frames s (cut-more false s x e)
+      lines-by place frames s (cut-more noFecf s x e)
       ∙ append-assoc (line place x) (lines (place + n) (c .frames)) _
-      ∙ ap₂ (λ (i j : ℕ). line place x ++ (lines (place + n) (c .frames) ++ summary i j (answerOf (stopping false (c .rest))))) a b
+      ∙ ap₂ (λ (i j : ℕ). line place x ++ (lines (place + n) (c .frames) ++ summary i j (answerOf (stopping noFecf (c .rest))))) a b
 
 -- the whole text: too long, or line by line
 pub listing-long : (s : List ℕ) → 65536 < length s → listing s ≡ heading ++ summary 0 0 12

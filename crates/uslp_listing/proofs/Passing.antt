@@ -1,11 +1,11 @@
 -- The loop over the frames: what holds at a place, and how a frame, a refusal and the end carry it on.
 use mathlib.Core.Path.{_≡_, refl, ap, sym, _∙_}
 use Prim.Native.Nat.{ℕ, _+_, _-_, _*_, _<_, _≤_}
-use mathlib.Core.Bool.{false}
 use mathlib.Core.List.{List, _++_}
 use native.Mathlib.Omega.{arith}
 use lib.ListN.{length, drop, length-append, length-drop, drop-of-length-le}
 use lib.Seq.{drop-drop}
+use Rattle.uslp_kinds.specs.Managed.{noFecf}
 use Rattle.uslp_kinds.specs.Outcome.{done, refused}
 use Rattle.uslp_primary_header.specs.Header.{lenFrame}
 use Rattle.uslp_reader.specs.Reader.{frameReading}
@@ -38,11 +38,11 @@ passed-none s found start =
     }
 
 module _ {s found left : List ℕ} {start at place frames : ℕ} (long : length s ≤ 65536) (p : Passed s found start at place frames left) where
-  pub passed-more : {n end : ℕ} {last : List ℕ} (x : TransferFrame) → place < length s → frameReading (drop place s) false ≡ done x → Small x
+  pub passed-more : {n end : ℕ} {last : List ℕ} (x : TransferFrame) → place < length s → frameReading (drop place s) noFecf ≡ done x → Small x
       → n ≡ lenFrame (x .«primary_header») → Told (line place x) at left end last → Passed s found start end (place + n) (frames + 1) last
   passed-more {n} {end} {last} x h read small e a =
-      let eight = frame-eight (drop place s) false read in
-      let r = read-done (drop place s) false x read in
+      let eight = frame-eight (drop place s) noFecf read in
+      let r = read-done (drop place s) noFecf x read in
       let left-over = length-drop place s in
       let inside : lenFrame (x .«primary_header») ≤ length s - place = omega (arith, r .whole) in
       let contents : x .«data_len» ≤ 65536 = omega (arith, ap (λ (y : TransferFrame). y .«data_len») (r .frame)) in
@@ -64,7 +64,7 @@ module _ {s found left : List ℕ} {start at place frames : ℕ} (long : length 
       let short = summary-short frames place k (omega (arith, p .few, p .inside)) (omega (arith, p .inside)) small in
       (p .told end last (told-as (sym l) a), omega (arith, p .short, p .inside, ap length l))
 
-  pub passed-refused : {k end : ℕ} {vs last : List ℕ} → place < length s → k < 256 → frameReading (drop place s) false ≡ refused k vs
+  pub passed-refused : {k end : ℕ} {vs last : List ℕ} → place < length s → k < 256 → frameReading (drop place s) noFecf ≡ refused k vs
       → Told (summary frames place k) at left end last → Complete s start found end last
   passed-refused h small read a =
       ended small (lines-refused place frames (drop place s) (omega (arith, length-drop place s)) read) a

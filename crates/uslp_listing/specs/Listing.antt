@@ -1,10 +1,11 @@
 -- The listing of a recording (docs/RULES.md, section 8): a line for each frame without FECF, end to end, until a refusal or the end.
 use Prim.Native.Nat.{ℕ, _+_, _-_}
-use mathlib.Core.Bool.{false, cond}
+use mathlib.Core.Bool.{cond}
 use mathlib.Core.List.{List, [], _∷_, _++_}
 use lib.ListN.{length, drop}
 use lib.Dec.{ltb}
-use Rattle.uslp_kinds.specs.Outcome.{Outcome, done, refused, Written, written, firstOf}
+use Rattle.uslp_kinds.specs.Outcome.{Outcome, done, refused, Written, onlyIfDone, firstOf}
+use Rattle.uslp_kinds.specs.Managed.{noFecf}
 use Rattle.uslp_primary_header.specs.Header.{lenFrame}
 use Rattle.uslp_reader.specs.EndToEnd.{cut, stopping}
 use Rattle.uslp_reader.specs.declared.TransferFrame.{TransferFrame}
@@ -14,18 +15,18 @@ abbrev pub heading : List ℕ
 heading = text "at length spacecraft channel map count data\n"
 
 -- a numeral and a blank behind it
-abbrev pub word : ℕ → List ℕ
-word n = decimal n ++ text " "
+abbrev pub spaced : ℕ → List ℕ
+spaced n = decimal n ++ text " "
 
 -- the line of a frame that stands at a place
 abbrev pub line : ℕ → TransferFrame → List ℕ
 line at x =
-    word at
-    ++ (word (lenFrame (x .«primary_header»))
-    ++ (word (x .«primary_header» .«spacecraft_id»)
-    ++ (word (x .«primary_header» .«vc_id»)
-    ++ (word (x .«primary_header» .«map_id»)
-    ++ (word (x .«primary_header» .«vc_frame_count»)
+    spaced at
+    ++ (spaced (lenFrame (x .«primary_header»))
+    ++ (spaced (x .«primary_header» .«spacecraft_id»)
+    ++ (spaced (x .«primary_header» .«vc_id»)
+    ++ (spaced (x .«primary_header» .«map_id»)
+    ++ (spaced (x .«primary_header» .«vc_frame_count»)
     ++ (decimal (x .«data_len») ++ text "\n"))))))
 
 abbrev pub summary : ℕ → ℕ → ℕ → List ℕ
@@ -45,8 +46,8 @@ answerOf (refused k vs) = k
 -- the lines of the frames end to end, then how many they are, the place reached, and why nothing more was read there
 abbrev pub linesOf : List ℕ → List ℕ
 linesOf s =
-    let c = cut false s in
-    lines 0 (c .frames) ++ summary (length (c .frames)) (length s - length (c .rest)) (answerOf (stopping false (c .rest)))
+    let c = cut noFecf s in
+    lines 0 (c .frames) ++ summary (length (c .frames)) (length s - length (c .rest)) (answerOf (stopping noFecf (c .rest)))
 
 -- the whole text
 unfoldable pub listing : List ℕ → List ℕ
@@ -59,7 +60,7 @@ room = 524400
 -- the listing over octets t: 2 for a buffer below the room; the octets past the text stay
 unfoldable pub listingOver : List ℕ → List ℕ → Written ℕ
 listingOver s t =
-    written
+    onlyIfDone
     (firstOf ((ltb (length t) room, refused 2 (length t ∷ room ∷ [])) ∷ []) (done (length (listing s))))
     (listing s ++ drop (length (listing s)) t)
     t

@@ -1,9 +1,10 @@
 // The listing of a recording, as text in a lent buffer.
 use uslp_kinds::LengthAnswer;
+use uslp_kinds::NO_FECF;
 use uslp_kinds::Refusal;
 use uslp_reader::FrameAnswer;
 use uslp_reader::TransferFrame;
-use uslp_text::put_number;
+use uslp_text::put_decimal;
 use uslp_text::put_text;
 ghost use mathlib.Core.Path.{_≡_};
 ghost use Prim.Native.Nat.{_≤_};
@@ -33,7 +34,8 @@ pub fn list(recording: &[u8], out: &mut [u8]) -> LengthAnswer
     }
     let at = put_text(b"at length spacecraft channel map count data\n", out, 0);
     if recording.len() > MAX_RECORDING_LEN {
-        return LengthAnswer::Done(put_summary(0, 0, 12, out, at));
+        let refusal = Refusal::TooLong;
+        return LengthAnswer::Done(put_summary(0, 0, refusal.number(), out, at));
     }
     LengthAnswer::Done(put_lines(recording, out, at))
 }
@@ -48,7 +50,7 @@ fn put_lines(recording: &[u8], out: &mut [u8], start: usize) -> usize
     let mut place: usize = 0;
     let mut frames: usize = 0;
     while place < recording.len() {
-        match TransferFrame::from_bytes(&recording[place..], false) {
+        match TransferFrame::from_bytes(&recording[place..], NO_FECF) {
             FrameAnswer::Done(frame) => {
                 at = put_line(place, frame, out, at);
                 place += frame.len_frame();
@@ -88,6 +90,6 @@ fn put_summary(frames: usize, place: usize, answer: u8, out: &mut [u8], at: usiz
 fn put_word(value: u64, text: &[u8], out: &mut [u8], at: usize) -> usize
     ensures { λ r. ⌜ Told (decimal value ++ now (text .entry)) at (now (out .entry)) r (now (out .exit)) ⌝ }
 {
-    let end = put_number(value, out, at);
+    let end = put_decimal(value, out, at);
     put_text(text, out, end)
 }

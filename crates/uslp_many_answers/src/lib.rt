@@ -3,22 +3,23 @@ use uslp_answers::channels::say_done;
 use uslp_answers::say;
 use uslp_answers::say_field;
 use uslp_answers::say_zero;
+use uslp_end_to_end::Tally;
+use uslp_end_to_end::hear_many;
 use uslp_kinds::DoneAnswer;
-use uslp_many::Tally;
-use uslp_many::hear_many;
+use uslp_kinds::ManagedParameters;
 use uslp_record::ChannelRecord;
 ghost use mathlib.Core.Path.{_≡_};
-ghost use Rattle.uslp_many.specs.Many.{manyHearing};
+ghost use Rattle.uslp_end_to_end.specs.Many.{manyHearing};
 
 // The place reached, the tally, and why the call stopped there.
-pub fn many(octets: &[u8], has_fecf: bool, channels: ChannelRecord) -> ChannelRecord
-    ensures { λ r. ⌜ r ≡ manyHearing channels (now (octets .entry)) «has_fecf» .next ⌝ }
+pub fn many(octets: &[u8], managed: ManagedParameters, channels: ChannelRecord) -> ChannelRecord
+    ensures { λ r. ⌜ r ≡ manyHearing channels (now (octets .entry)) managed .next ⌝ }
 {
-    let hearing = hear_many(channels, octets, has_fecf);
+    let hearing = hear_many(channels, octets, managed);
     let tally = hearing.tally;
     let stop = hearing.stop;
     say_zero();
-    say_field(hearing.stopped as u64);
+    say_field(hearing.place as u64);
     say_tally(tally);
     say_stop(stop);
     hearing.next

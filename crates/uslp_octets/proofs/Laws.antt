@@ -12,7 +12,7 @@ use lib.Arith.{digits-lt}
 use lib.Dec.{lit<}
 use lib.ListN.{length, take, drop, getD, set, length-take, length-drop, List·getD-append, List·getD-eq-default}
 use lib.Seq.{getD-append-add, getD-drop, getD-take, take-suc, append-snoc, set-at, length-take-le, take-length, take-all, take-at, drop-at}
-use Rattle.uslp_octets.specs.Octets.{AreOctets, Field, bitsIn, valueOf, Fits, split, octets, pack, unpack, word, overlaid}
+use Rattle.uslp_octets.specs.Octets.{AreOctets, BitField, bitsIn, valueOf, Fits, split, octets, pack, unpack, word, overlaid}
 
 pub pow-eight : (w : ℕ) → 2 ^ (8 * w) ≡ 256 ^ w
 pow-eight zero = refl
@@ -51,38 +51,38 @@ octets-append (suc k) w q r h =
     rw suc-add (cons-eq (ap (λ (y : ℕ). y % 256) x) (octets-append k w q r h))
 
 -- a row after a row
-bits-append : (fs gs : List Field) → bitsIn (fs ++ gs) ≡ bitsIn fs + bitsIn gs
+bits-append : (fs gs : List BitField) → bitsIn (fs ++ gs) ≡ bitsIn fs + bitsIn gs
 bits-append [] gs = sym (zero-add (bitsIn gs))
 bits-append (f ∷ fs) gs = rw (bits-append fs gs) (sym (add-assoc (f .1) (bitsIn fs) (bitsIn gs)))
 
 regroup : (v b p n m : ℕ) → v * (b * p) + (n * p + m) ≡ (v * b + n) * p + m
 regroup v b p n m = simp (add-mul, mul-assoc, add-assoc)
 
-value-append : (fs gs : List Field) → valueOf (fs ++ gs) ≡ valueOf fs * 2 ^ bitsIn gs + valueOf gs
+value-append : (fs gs : List BitField) → valueOf (fs ++ gs) ≡ valueOf fs * 2 ^ bitsIn gs + valueOf gs
 value-append [] gs = omega arith
 value-append (f ∷ fs) gs =
     rw (bits-append fs gs, value-append fs gs, pow-add)
     (regroup (f .2) (2 ^ bitsIn fs) (2 ^ bitsIn gs) (valueOf fs) (valueOf gs))
 
 -- a row of whole octets, and behind it a number of w octets
-pub pack-append : (name : String) (k w n : ℕ) (fs : List Field) → bitsIn fs ≡ 8 * k → n < 256 ^ w
+pub pack-append : (name : String) (k w n : ℕ) (fs : List BitField) → bitsIn fs ≡ 8 * k → n < 256 ^ w
     → pack (fs ++ (name, 8 * w, n) ∷ []) ≡ octets k (valueOf fs) ++ octets w n
 pack-append name k w n fs e h =
-    let last : List Field = (name, 8 * w, n) ∷ [] in
+    let last : List BitField = (name, 8 * w, n) ∷ [] in
     let b : bitsIn (fs ++ last) / 8 ≡ k + w = omega (arith, bits-append fs last) in
     let p : 2 ^ (8 * w + 0) ≡ 256 ^ w = rw add-zero (pow-eight w) in
     let v : valueOf (fs ++ last) ≡ valueOf fs * 256 ^ w + n = value-append fs last ∙ rw p (omega arith) in
     rw (b, v) (octets-append k w (valueOf fs) n h)
 
 -- splitting the number of a row that fits gives the row, whatever stands above it
-pub value-lt : (fs : List Field) → Fits fs → valueOf fs < 2 ^ bitsIn fs
+pub value-lt : (fs : List BitField) → Fits fs → valueOf fs < 2 ^ bitsIn fs
 value-lt [] h = lit< tt
 value-lt (f ∷ fs) h = rw (pow-add 2 (f .1) (bitsIn fs)) (digits-lt (h .0) (value-lt fs (h .1)))
 
-pub field-eq : {name : String} {w a b : ℕ} {fs gs : List Field} → a ≡ b → fs ≡ gs → (name, w, a) ∷ fs ≡ (name, w, b) ∷ gs
+pub field-eq : {name : String} {w a b : ℕ} {fs gs : List BitField} → a ≡ b → fs ≡ gs → (name, w, a) ∷ fs ≡ (name, w, b) ∷ gs
 field-eq p q = cc
 
-split-value : (fs : List Field) (q : ℕ) → Fits fs → split fs (q * 2 ^ bitsIn fs + valueOf fs) ≡ fs
+split-value : (fs : List BitField) (q : ℕ) → Fits fs → split fs (q * 2 ^ bitsIn fs + valueOf fs) ≡ fs
 split-value [] q h = refl
 split-value (f ∷ fs) q h =
     let e : q * 2 ^ (f .1 + bitsIn fs) + (f .2 * 2 ^ bitsIn fs + valueOf fs) ≡ (q * 2 ^ f .1 + f .2) * 2 ^ bitsIn fs + valueOf fs =
@@ -93,21 +93,21 @@ split-value (f ∷ fs) q h =
     (split-value fs (q * 2 ^ f .1 + f .2) (h .1)))
 
 -- the number of the row that a number was split into
-bits-split : (fs : List Field) (n : ℕ) → bitsIn (split fs n) ≡ bitsIn fs
+bits-split : (fs : List BitField) (n : ℕ) → bitsIn (split fs n) ≡ bitsIn fs
 bits-split [] n = refl
 bits-split (f ∷ fs) n = ap (λ (b : ℕ). f .1 + b) (bits-split fs n)
 
-value-split : (fs : List Field) (n : ℕ) → valueOf (split fs n) ≡ n % 2 ^ bitsIn fs
+value-split : (fs : List BitField) (n : ℕ) → valueOf (split fs n) ≡ n % 2 ^ bitsIn fs
 value-split [] n = omega arith
 value-split (f ∷ fs) n = rw (bits-split fs n, value-split fs n) (sym (mod-pow-add n (f .1) (bitsIn fs)))
 
 -- the row that a number was split into fits
-pub split-fits : (fs : List Field) (n : ℕ) → Fits (split fs n)
+pub split-fits : (fs : List BitField) (n : ℕ) → Fits (split fs n)
 split-fits [] n = tt
 split-fits (f ∷ fs) n = (mod-lt (n / 2 ^ bitsIn fs) (pow-pos (f .1)), split-fits fs n)
 
 -- what stands above a row does not matter to it
-split-low : (fs : List Field) (q r : ℕ) → split fs (q * 2 ^ bitsIn fs + r) ≡ split fs r
+split-low : (fs : List BitField) (q r : ℕ) → split fs (q * 2 ^ bitsIn fs + r) ≡ split fs r
 split-low [] q r = refl
 split-low (f ∷ fs) q r =
     let e : q * 2 ^ (f .1 + bitsIn fs) + r ≡ q * 2 ^ f .1 * 2 ^ bitsIn fs + r = rw (pow-add, mul-assoc) in
@@ -165,7 +165,7 @@ module _ (s : List ℕ) (i : ℕ) (oct : AreOctets s) where
   word-fits w h = mod-eq-of-lt (omega (arith, word-lt w, pow-le-pow-right {n = 256} (lit< tt) {i = w} {j = 8} h))
 
 -- a row of whole octets: packed it is unpacked to itself, and octets unpacked pack to themselves
-module _ (fs : List Field) (k : ℕ) (whole : bitsIn fs ≡ 8 * k) where
+module _ (fs : List BitField) (k : ℕ) (whole : bitsIn fs ≡ 8 * k) where
   eighth : bitsIn fs / 8 ≡ k
   eighth = omega arith
 
@@ -229,7 +229,7 @@ pub word-front : (s t : List ℕ) (i n : ℕ) → i + n ≤ length s → word i 
 word-front s t i zero h = refl
 word-front s t i (suc n) h = rw (word-front s t i n (omega arith), List·getD-append s t 0 (i + n) (omega arith))
 
-pub unpack-front : (fs : List Field) (s t : List ℕ) → bitsIn fs / 8 ≤ length s → unpack fs (s ++ t) ≡ unpack fs s
+pub unpack-front : (fs : List BitField) (s t : List ℕ) → bitsIn fs / 8 ≤ length s → unpack fs (s ++ t) ≡ unpack fs s
 unpack-front fs s t h = ap (split fs) (word-front s t 0 (bitsIn fs / 8) (omega arith))
 
 -- the word of a part, as a range cuts it
@@ -240,7 +240,7 @@ word-part i w s h =
     (word-take 0 w w (drop i s) (omega arith) ∙ word-drop i 0 w s ∙ ap (λ (m : ℕ). word m w s) (add-zero i))
 
 -- a field of k octets before a row of m
-module _ (name : String) (k v m : ℕ) (fs : List Field) (whole : bitsIn fs ≡ 8 * m) where
+module _ (name : String) (k v m : ℕ) (fs : List BitField) (whole : bitsIn fs ≡ 8 * m) where
   both : (8 * k + bitsIn fs) / 8 ≡ k + m
   both = omega arith
 

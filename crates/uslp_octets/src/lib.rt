@@ -1,8 +1,8 @@
-// Octets: copying them between slices, and numbers as octets, big-endian.
+// Octets: copying them between slices, parts of them, and numbers as octets, big-endian.
 ghost use mathlib.Core.Path.{_≡_};
 ghost use Prim.Native.Nat.{_+_, _*_, _%_, _^_};
 ghost use lib.ListN.{length};
-ghost use Rattle.uslp_octets.specs.Octets.{octets, word, overlaid};
+ghost use Rattle.uslp_octets.specs.Octets.{octets, word, overlaid, partIn, partAt, PartOf};
 
 // Copies as many octets as both slices have; the rest of `to` stays.
 pub fn copy_octets(from: &[u8], to: &mut [u8])
@@ -16,7 +16,7 @@ pub fn copy_octets(from: &[u8], to: &mut [u8])
 }
 
 // Fills `to` with a number's low octets.
-pub fn put_number(value: u64, to: &mut [u8])
+pub fn put_be_number(value: u64, to: &mut [u8])
     ensures { λ _. ⌜ now (to .exit) ≡ octets (length (now (to .entry))) value ⌝ }
 {
     let mut rest = value;
@@ -41,7 +41,7 @@ pub fn be_u32(a: u8, b: u8, c: u8, d: u8) -> u32
 }
 
 // The number that octets make, of more than eight the last eight.
-pub fn number_in(octets: &[u8]) -> u64
+pub fn be_number(octets: &[u8]) -> u64
     ensures { λ r. ⌜ r ≡ word 0 (length (now (octets .entry))) (now (octets .entry)) % 2 ^ 64 ⌝ }
 {
     let mut number: u64 = 0;
@@ -51,6 +51,21 @@ pub fn number_in(octets: &[u8]) -> u64
         i += 1;
     }
     number
+}
+
+// The n octets from a place on as a part of those lent; nothing where they do not reach so far.
+pub fn part(octets: &[u8], start: usize, n: usize) -> &[u8]
+    ensures { λ r. ⌜ PartOf (octets .entry) (partAt start n (now (octets .entry))) (partIn start n (now (octets .entry))) r ⌝ }
+{
+    let found = octets.len();
+    if start > found {
+        return &octets[0..0];
+    }
+    if n > found - start {
+        return &octets[0..0];
+    }
+    let end = start + n;
+    &octets[start..end]
 }
 
 // One octet more at the end; the eight last stay.

@@ -7,7 +7,7 @@ use native.Mathlib.Omega.{arith}
 use borrow.Author.Tests.{ltb-true, ltb-false}
 use lib.Dec.{eqb, ltb}
 use lib.ListN.{length, List·getD-append}
-use Rattle.uslp_octets.specs.Octets.{AreOctets, Field, named, word}
+use Rattle.uslp_octets.specs.Octets.{AreOctets, BitField, named, word}
 use Rattle.uslp_octets.proofs.Laws.{are-front, word-front, unpack-front}
 use Rattle.uslp_kinds.specs.Outcome.{done}
 use Rattle.uslp_kinds.proofs.Behind.{Follows, Says, length-row, same-row, same-end, says-row, says-other, says-end}
@@ -38,7 +38,7 @@ module _ (s t : List ℕ) where
       let rows = rows-front (ltb-false _ _ seven) in
       let w : ℕ = named "count width" (rowsIn s) in
       let width = ap (named "count width") rows in
-      same-row _ 4 _ _ _ _ _ _ refl (ap (λ (l : List Field). named "version" l ∷ []) rows) (ap (λ (l : List Field). not (eqb (named "version" l) 12)) rows)
+      same-row _ 4 _ _ _ _ _ _ refl (ap (λ (l : List BitField). named "version" l ∷ []) rows) (ap (λ (l : List BitField). not (eqb (named "version" l) 12)) rows)
       (λ b.
       length-row s t (7 + w) _ _ _ (ap (λ (n : ℕ). 7 + n) width)
       (λ count.

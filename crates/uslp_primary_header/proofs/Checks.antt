@@ -8,7 +8,8 @@ use native.Mathlib.Decide.{decLt, decLe}
 use lib.Dec.{ltb}
 use borrow.Author.Tests.{le-ltb, lt-ltb, le-leb, lt-leb}
 use Rattle.uslp_kinds.specs.Outcome.{Outcome, done, refused, firstOf}
-use Rattle.uslp_primary_header.specs.Header.{countBad, headerChecks, headerChecking}
+use Rattle.uslp_kinds.specs.Kinds.{countBad}
+use Rattle.uslp_primary_header.specs.Header.{headerChecks, headerChecking}
 use Rattle.uslp_primary_header.specs.declared.PrimaryHeader.{PrimaryHeader}
 use Rattle.uslp_kinds.proofs.Outcomes.{not-done}
 use Rattle.uslp_kinds.proofs.Firsts.{Check, first-done, first-refused, first-passed}

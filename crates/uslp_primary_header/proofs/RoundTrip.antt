@@ -12,7 +12,7 @@ use borrow.Author.Tests.{ltb-false, le-ltb, eqb-true, eqb-false, eq-eqb, not-fal
 use lib.ListN.{length, take, drop, length-append}
 use lib.Seq.{take-add}
 use lib.Dec.{lit<, lit≤, ltb, eqb}
-use Rattle.uslp_octets.specs.Octets.{AreOctets, Field, bitsIn, octets, pack, word, named}
+use Rattle.uslp_octets.specs.Octets.{AreOctets, BitField, bitsIn, octets, pack, word, named}
 use Rattle.uslp_octets.proofs.Laws.{length-octets, octets-word, word-octets, word-lt, unpack-pack, pack-unpack}
 use Rattle.uslp_kinds.specs.Outcome.{Outcome, done, refused, leaving}
 use Rattle.uslp_kinds.specs.Kinds.{sourceOrDestNumber, sourceOrDestOf, bypassNumber, bypassOf, commandNumber, commandOf}
@@ -42,7 +42,7 @@ layout-read spare h t small f =
     let s : List ℕ = pack (fixedTable spare h) ++ (octets w n ++ t) in
     let room : 7 + w ≤ length s = omega (arith, length-append (octets w n) t, length-octets w n) in
     rw (table-split spare h (f .checks-pass))
-    (ap (λ (rows : List Field). readingOf rows s) (unpack-pack (fixedTable spare h) 7 refl (octets w n ++ t) (rows-fit spare h small f))
+    (ap (λ (rows : List BitField). readingOf rows s) (unpack-pack (fixedTable spare h) 7 refl (octets w n ++ t) (rows-fit spare h small f))
     ∙ simp (
       le-ltb (length s) 4 (omega arith),
       le-ltb (length s) 7 (omega arith),
@@ -53,7 +53,7 @@ layout-read spare h t small f =
     (ap done (rows-header spare h)))
 
 -- the checks of reading, as tests, and the header that stands in the octets
-abbrev tests : List Field → List ℕ → List Check
+abbrev tests : List BitField → List ℕ → List Check
 tests rows s =
     (ltb (length s) 4, 1, length s ∷ 4 ∷ [])
     ∷ (eqb (named "truncated" rows) 1, 3, [])

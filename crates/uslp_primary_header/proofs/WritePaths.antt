@@ -9,7 +9,7 @@ use lib.Dec.{ltb}
 use lib.ListN.{length, take, drop, length-drop}
 use lib.Seq.{length-take-le, drop-drop}
 use Rattle.uslp_octets.specs.Octets.{octets, valueOf, pack}
-use Rattle.uslp_kinds.specs.Outcome.{Outcome, done, refused, leaving, written, firstOf}
+use Rattle.uslp_kinds.specs.Outcome.{Outcome, done, refused, leaving, onlyIfDone, firstOf}
 use Rattle.uslp_primary_header.specs.Header.{fixedTable, table, lenHeader, headerChecks, headerChecking, headerWriting}
 use Rattle.uslp_primary_header.specs.declared.PrimaryHeader.{PrimaryHeader}
 use Rattle.uslp_primary_header.proofs.Checks.{checks-refused, checks-passed, checks-same}
@@ -22,9 +22,9 @@ room h s = (ltb (length s) (lenHeader h), refused 2 (length s ∷ lenHeader h �
 module _ (h : PrimaryHeader) (s : List ℕ) where
   -- an answer, and the octets that it leaves
   answered : {o : Outcome ℕ} → firstOf (headerChecks h ++ room h s) (done (lenHeader h)) ≡ o
-      → headerWriting h s ≡ written o (pack (table 0 h) ++ drop (lenHeader h) s) s
+      → headerWriting h s ≡ onlyIfDone o (pack (table 0 h) ++ drop (lenHeader h) s) s
   unfolding headerWriting
-  answered e = ap (λ (o : Outcome ℕ). written o (pack (table 0 h) ++ drop (lenHeader h) s) s) e
+  answered e = ap (λ (o : Outcome ℕ). onlyIfDone o (pack (table 0 h) ++ drop (lenHeader h) s) s) e
 
   pub writing-refused : {k : ℕ} {vs : List ℕ} → headerChecking h ≡ refused k vs → headerWriting h s ≡ leaving (refused k vs) s
   writing-refused e = answered (checks-refused h (room h s) (done (lenHeader h)) e)

@@ -1,13 +1,13 @@
 -- The primary header: CCSDS 732.1-B's table of bit fields (docs/RULES.md, section 1.1), and what each call answers, in the orders of section 3.
 use mathlib.Core.Path.{_≡_}
-use Prim.Native.Nat.{ℕ, _+_, _*_, _^_, _-_, _<_}
+use Prim.Native.Nat.{ℕ, _+_, _*_, _-_, _<_}
 use mathlib.Core.Bool.{Bool, true, false, not, _&&_, _||_}
 use mathlib.Core.List.{List, [], _∷_, _++_}
 use lib.ListN.{length, drop}
-use lib.Dec.{ltb, leb, eqb}
-use Rattle.uslp_octets.specs.Octets.{Field, pack, unpack, named, word}
-use Rattle.uslp_kinds.specs.Outcome.{Outcome, done, refused, Written, written, firstOf}
-use Rattle.uslp_kinds.specs.Kinds.{sourceOrDestNumber, sourceOrDestOf, bypassNumber, bypassOf, commandNumber, commandOf}
+use lib.Dec.{ltb, eqb}
+use Rattle.uslp_octets.specs.Octets.{BitField, pack, unpack, named, word}
+use Rattle.uslp_kinds.specs.Outcome.{Outcome, done, refused, Written, onlyIfDone, firstOf}
+use Rattle.uslp_kinds.specs.Kinds.{sourceOrDestNumber, sourceOrDestOf, bypassNumber, bypassOf, commandNumber, commandOf, countBad}
 use Rattle.uslp_kinds.specs.Answers.{refusal}
 use Rattle.uslp_kinds.specs.declared.SourceOrDestField.{SourceOrDestField}
 use Rattle.uslp_kinds.specs.declared.BypassSequenceControlFlag.the-variants.{SequenceControlledQoS}
@@ -25,7 +25,7 @@ flag true = 1
 flag false = 0
 
 -- the fields of the first seven octets, from the first bit on, each with its bits; the two spare bits are a parameter
-abbrev pub fixedTable : ℕ → PrimaryHeader → List Field
+abbrev pub fixedTable : ℕ → PrimaryHeader → List BitField
 fixedTable spare h =
     ("version", 4, 12)
     ∷ ("spacecraft id", 16, h .«spacecraft_id»)
@@ -42,7 +42,7 @@ fixedTable spare h =
     ∷ []
 
 -- and then the count, in as many octets as the field before it says
-abbrev pub table : ℕ → PrimaryHeader → List Field
+abbrev pub table : ℕ → PrimaryHeader → List BitField
 table spare h = fixedTable spare h ++ ("count", 8 * h .«vc_frame_count_len», h .«vc_frame_count») ∷ []
 
 abbrev pub lenHeader : PrimaryHeader → ℕ
@@ -51,10 +51,6 @@ lenHeader h = 7 + h .«vc_frame_count_len»
 -- the frame's total octets: the header holds them less one
 abbrev pub lenFrame : PrimaryHeader → ℕ
 lenFrame h = h .«frame_len_field» + 1
-
--- a count must be below 256 to the power of its width
-abbrev pub countBad : ℕ → ℕ → Bool
-countBad width count = leb (256 ^ width) count
 
 -- the checks of a header that is written: 10, 8
 abbrev pub headerChecks : {A : Type 0} → PrimaryHeader → List (Bool × Outcome A)
@@ -139,7 +135,7 @@ sameButWidth a b =
     && eqb (a .«vc_frame_count») (b .«vc_frame_count»)
 
 -- the header of these fields and this count; the spare bits are not looked at
-abbrev pub headerOf : List Field → ℕ → PrimaryHeader
+abbrev pub headerOf : List BitField → ℕ → PrimaryHeader
 headerOf rows count =
     record {
       «spacecraft_id» = named "spacecraft id" rows;
@@ -155,17 +151,17 @@ headerOf rows count =
     }
 
 -- the names and bits of the fields, whatever their values; and the fields that stand in the octets
-abbrev pub format : List Field
+abbrev pub format : List BitField
 format = fixedTable 0 (headerOf [] 0)
 
-abbrev pub rowsIn : List ℕ → List Field
+abbrev pub rowsIn : List ℕ → List BitField
 rowsIn s = unpack format s
 
 abbrev pub spareIn : List ℕ → ℕ
 spareIn s = named "spare" (rowsIn s)
 
 -- reading the header of these fields from octets s: 1 (4 octets), 3, 1 (7 octets), 4, 1 (count)
-abbrev pub readingOf : List Field → List ℕ → Outcome PrimaryHeader
+abbrev pub readingOf : List BitField → List ℕ → Outcome PrimaryHeader
 readingOf rows s =
     firstOf
     ((ltb (length s) 4, refused 1 (length s ∷ 4 ∷ []))
@@ -182,7 +178,7 @@ headerReading s = readingOf (rowsIn s) s
 -- writing a header over octets s: 10, 8, 2; its length and OCF flag as they are, the octets past it stay
 unfoldable pub headerWriting : PrimaryHeader → List ℕ → Written ℕ
 headerWriting h s =
-    written
+    onlyIfDone
     (firstOf
     (headerChecks h ++ (ltb (length s) (lenHeader h), refused 2 (length s ∷ lenHeader h ∷ [])) ∷ [])
     (done (lenHeader h)))

@@ -6,7 +6,7 @@ use crate::USLP_VERSION_NUMBER;
 use crate::fixed::VERSION;
 use crate::fixed::header_of;
 use uslp_kinds::Refusal;
-use uslp_octets::number_in;
+use uslp_octets::be_number;
 ghost use mathlib.Core.Path.{_≡_};
 ghost use Prim.Native.Nat.{_<_};
 ghost use lib.ListN.{length};
@@ -30,7 +30,7 @@ impl PrimaryHeader {
                 expected: FIXED_LEN,
             });
         }
-        let fixed = number_in(&buf[0..FIXED_LEN]);
+        let fixed = be_number(&buf[0..FIXED_LEN]);
         let version = (fixed / VERSION % 16) as u8;
         if version != USLP_VERSION_NUMBER {
             return HeaderAnswer::Refused(Refusal::BadVersion(version));
@@ -48,5 +48,5 @@ fn read_count(octets: &[u8]) -> u64
     requires { ⌜ length (now octets) < 8 ⌝ }
     ensures { λ r. ⌜ r ≡ word 0 (length (now (octets .entry))) (now (octets .entry)) ⌝ }
 {
-    number_in(octets)
+    be_number(octets)
 }

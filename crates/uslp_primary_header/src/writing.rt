@@ -8,11 +8,12 @@ use uslp_kinds::MAX_COUNT_LEN;
 use uslp_kinds::MAX_MAP_ID;
 use uslp_kinds::MAX_VC_ID;
 use uslp_kinds::Refusal;
-use uslp_octets::put_number;
+use uslp_octets::put_be_number;
 ghost use mathlib.Core.Path.{_≡_};
 ghost use Rattle.uslp_kinds.specs.Outcome.{done, leaving};
 ghost use Rattle.uslp_kinds.specs.Answers.{paperLength};
-ghost use Rattle.uslp_primary_header.specs.Header.{paperHeader, countBad, headerChecking, headerWriting};
+ghost use Rattle.uslp_kinds.specs.Kinds.{countBad};
+ghost use Rattle.uslp_primary_header.specs.Header.{paperHeader, headerChecking, headerWriting};
 
 impl PrimaryHeader {
     // The header itself where it can be written. Refuses BAD_FIELD, then BAD_COUNT.
@@ -67,7 +68,7 @@ fn put_header(header: PrimaryHeader, buf: &mut [u8]) -> LengthAnswer
     if found < expected {
         return LengthAnswer::Refused(Refusal::ShortTarget { found, expected });
     }
-    put_number(fixed_of(header), &mut buf[0..FIXED_LEN]);
-    put_number(header.vc_frame_count, &mut buf[FIXED_LEN..expected]);
+    put_be_number(fixed_of(header), &mut buf[0..FIXED_LEN]);
+    put_be_number(header.vc_frame_count, &mut buf[FIXED_LEN..expected]);
     LengthAnswer::Done(expected)
 }

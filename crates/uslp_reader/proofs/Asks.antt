@@ -7,11 +7,13 @@ use native.Mathlib.Omega.{arith}
 use borrow.Author.Tests.{ltb-true, ltb-false, lt-ltb, le-ltb}
 use lib.ListN.{length, take, drop, getD, length-append, length-drop}
 use lib.Dec.{eqb, ltb}
-use Rattle.uslp_octets.specs.Octets.{Field, named}
+use Rattle.uslp_octets.specs.Octets.{BitField, named}
 use Rattle.uslp_checksum.specs.Checksum.{checksumOf}
 use Rattle.uslp_kinds.specs.Outcome.{Outcome, done, refused, andThen}
 use Rattle.uslp_kinds.specs.Answers.{short, lacking}
+use Rattle.uslp_kinds.specs.Managed.{noFecf}
 use Rattle.uslp_kinds.proofs.Behind.{Says, says-row, says-other, says-end, says-then, lacking-none}
+use Rattle.uslp_kinds.specs.declared.ManagedParameters.{ManagedParameters}
 use Rattle.uslp_primary_header.specs.Header.{lenHeader, lenFrame, headerReading}
 use Rattle.uslp_primary_header.specs.declared.PrimaryHeader.{PrimaryHeader}
 use Rattle.uslp_primary_header.proofs.RoundTrip.{headerIn, read-in, read-long}
@@ -58,12 +60,12 @@ module _ (s : List ℕ) where
   all-as : {a : ℕ} (n : ℕ) → a ≡ length s + n → Awaits s a → InAll n
   all-as n e w = subst (Awaits s) e w
 
-  body-awaits : (h : PrimaryHeader) (f : TransferFrameDataFieldHeader) (fecf : Bool) → Says InAll (bodyReading h f fecf s)
-  body-awaits h f fecf =
-      says-other InAll 7 (lenFrame h ∷ needed h f fecf ∷ []) (ltb (lenFrame h) (needed h f fecf)) _ refl
+  body-awaits : (h : PrimaryHeader) (f : TransferFrameDataFieldHeader) (managed : ManagedParameters) → Says InAll (bodyReading h f managed s)
+  body-awaits h f managed =
+      says-other InAll 7 (lenFrame h ∷ needed h f managed ∷ []) (ltb (lenFrame h) (needed h f managed)) _ refl
       (λ a.
-      says-other InAll 6 (storedFecf h s ∷ computedFecf h s ∷ []) (fecf && not (eqb (checksumOf (take (lenFrame h) s)) 0)) _ refl
-      (λ b. says-end InAll (done (frameWith h f (lenFrame h - needed h f fecf) s)) refl))
+      says-other InAll 6 (storedFecf h s ∷ computedFecf h s ∷ []) (managed .«has_fecf» && not (eqb (checksumOf (take (lenFrame h) s)) 0)) _ refl
+      (λ b. says-end InAll (done (frameWith h f (lenFrame h - needed h f managed) s)) refl))
 
   field-awaits : lenHeader (headerIn s) ≤ length s → lenFrame (headerIn s) ≤ length s → Says InAll (fieldReading (drop (lenHeader (headerIn s)) s))
   field-awaits long enough =
@@ -73,34 +75,34 @@ module _ (s : List ℕ) where
       (λ k l. all-as _ (omega arith) (pointer (omega arith) enough (omega arith)))
 
   -- behind a header that was read
-  abbrev behind : Bool → PrimaryHeader → Outcome TransferFrame
-  behind fecf h =
+  abbrev behind : ManagedParameters → PrimaryHeader → Outcome TransferFrame
+  behind managed h =
       cond (ltb (length s) (lenFrame h)) (refused 1 (length s ∷ lenFrame h ∷ []))
-      (andThen (fieldReading (drop (lenHeader h) s)) (λ (f : TransferFrameDataFieldHeader). bodyReading h f fecf s))
+      (andThen (fieldReading (drop (lenHeader h) s)) (λ (f : TransferFrameDataFieldHeader). bodyReading h f managed s))
 
-  behind-awaits : (fecf : Bool) → lenHeader (headerIn s) ≤ length s → Says InAll (behind fecf (headerIn s))
-  behind-awaits fecf long =
+  behind-awaits : (managed : ManagedParameters) → lenHeader (headerIn s) ≤ length s → Says InAll (behind managed (headerIn s))
+  behind-awaits managed long =
       let h = headerIn s in
-      says-row InAll (length s) (lenFrame h) _ (andThen (fieldReading (drop (lenHeader h) s)) (λ (f : TransferFrameDataFieldHeader). bodyReading h f fecf s))
+      says-row InAll (length s) (lenFrame h) _ (andThen (fieldReading (drop (lenHeader h) s)) (λ (f : TransferFrameDataFieldHeader). bodyReading h f managed s))
       (λ a. let l = ltb-true (length s) (lenFrame h) a in all-as _ (omega arith) (whole long l))
       (λ a.
-      says-then (λ (f : TransferFrameDataFieldHeader). bodyReading h f fecf s) InAll (fieldReading (drop (lenHeader h) s))
+      says-then (λ (f : TransferFrameDataFieldHeader). bodyReading h f managed s) InAll (fieldReading (drop (lenHeader h) s))
       (field-awaits long (ltb-false (length s) (lenFrame h) a))
-      (λ f r. body-awaits h f fecf))
+      (λ f r. body-awaits h f managed))
 
   -- SHORT_SOURCE asks for one of these
-  frame-awaits : (fecf : Bool) → short (frameReading s fecf) ≡ true → Awaits s (length s + lacking (frameReading s fecf))
+  frame-awaits : (managed : ManagedParameters) → short (frameReading s managed) ≡ true → Awaits s (length s + lacking (frameReading s managed))
   unfolding frameReading
-  frame-awaits fecf =
-      says-then (behind fecf) InAll (headerReading s)
+  frame-awaits managed =
+      says-then (behind managed) InAll (headerReading s)
       (header-says s InAll
       (λ l. all-as _ (omega arith) (four l))
       (λ k l. all-as _ (omega arith) (seven k l))
       (λ k l. all-as _ (omega arith) (count k l)))
       (λ h e.
       let i = read-in s h e in
-      subst (λ (k : PrimaryHeader). Says InAll (behind fecf k)) i
-      (behind-awaits fecf (subst (λ (k : PrimaryHeader). lenHeader k ≤ length s) (sym i) (read-long s h e))))
+      subst (λ (k : PrimaryHeader). Says InAll (behind managed k)) i
+      (behind-awaits managed (subst (λ (k : PrimaryHeader). lenHeader k ≤ length s) (sym i) (read-long s h e))))
 
 -- which is more than there are, and no more than 65,536
 awaits-more : {s : List ℕ} {a : ℕ} → Awaits s a → length s < a
@@ -120,15 +122,15 @@ awaits-room (rule f g h) = omega arith
 awaits-room (pointer f g h) = omega arith
 
 -- SHORT_SOURCE lacks an octet or more, and with these there are no more than 65,536
-pub lacks-some : (s : List ℕ) (fecf : Bool) → short (frameReading s fecf) ≡ true → 0 < lacking (frameReading s fecf)
-lacks-some s fecf e = omega (arith, awaits-more (frame-awaits s fecf e))
+pub lacks-some : (s : List ℕ) (managed : ManagedParameters) → short (frameReading s managed) ≡ true → 0 < lacking (frameReading s managed)
+lacks-some s managed e = omega (arith, awaits-more (frame-awaits s managed e))
 
-pub lacks-room : (s : List ℕ) (fecf : Bool) → length s ≤ 65536 → length s + lacking (frameReading s fecf) ≤ 65536
-lacks-room s fecf h = go (short (frameReading s fecf)) refl
+pub lacks-room : (s : List ℕ) (managed : ManagedParameters) → length s ≤ 65536 → length s + lacking (frameReading s managed) ≤ 65536
+lacks-room s managed h = go (short (frameReading s managed)) refl
   where
-    go : (b : Bool) → short (frameReading s fecf) ≡ b → length s + lacking (frameReading s fecf) ≤ 65536
-    go true e = awaits-room (frame-awaits s fecf e)
-    go false e = omega (arith, lacking-none (frameReading s fecf) e)
+    go : (b : Bool) → short (frameReading s managed) ≡ b → length s + lacking (frameReading s managed) ≤ 65536
+    go true e = awaits-room (frame-awaits s managed e)
+    go false e = omega (arith, lacking-none (frameReading s managed) e)
 
 -- how many lengths are reached: no more than there are, none past one that is not, and one more than those before one that is
 step-most : (b : Bool) (m n : ℕ) → m ≤ n → cond b 0 (suc m) ≤ suc n
@@ -164,10 +166,10 @@ passing-past (suc i) n (k ∷ ks) h = rw (le-ltb n k (h .0)) (omega (arith, pass
 module _ (s t : List ℕ) where
   -- with seven octets the two lengths in the header stand
   header-same : 7 ≤ length s → lenHeader (headerIn (s ++ t)) ≡ lenHeader (headerIn s)
-  header-same h = ap (λ (l : List Field). 7 + named "count width" l) (rows-front s t h)
+  header-same h = ap (λ (l : List BitField). 7 + named "count width" l) (rows-front s t h)
 
   frame-same : 7 ≤ length s → lenFrame (headerIn (s ++ t)) ≡ lenFrame (headerIn s)
-  frame-same h = ap (λ (l : List Field). named "length less one" l + 1) (rows-front s t h)
+  frame-same h = ap (λ (l : List BitField). named "length less one" l + 1) (rows-front s t h)
 
   one-more : (i : ℕ) → length s < getD (lengths s) i 0 → Upto i (length (s ++ t)) (lengths (s ++ t)) → reached s < reached (s ++ t)
   unfolding reached
@@ -198,21 +200,22 @@ module _ (s t : List ℕ) where
       one-more 4 h (omega arith, (omega arith, (omega arith, (omega arith, omega arith))))
 
 -- with exactly as many octets as it lacks, the reader gets past the length that it lacked
-pub asks-further : (s t : List ℕ) (fecf : Bool) → short (frameReading s fecf) ≡ true → length t ≡ lacking (frameReading s fecf) → reached s < reached (s ++ t)
-asks-further s t fecf e l = reached-more s t (frame-awaits s fecf e) (ap (λ (n : ℕ). length s + n) l)
+pub asks-further : (s t : List ℕ) (managed : ManagedParameters) → short (frameReading s managed) ≡ true → length t ≡ lacking (frameReading s managed)
+    → reached s < reached (s ++ t)
+asks-further s t managed e l = reached-more s t (frame-awaits s managed e) (ap (λ (n : ℕ). length s + n) l)
 
 -- so SHORT_SOURCE is met five times at the most
-asks-left : {fecf : Bool} {s : List ℕ} {n : ℕ} → Asks fecf s n → n + reached s ≤ 5
-asks-left {fecf} {s} no-more = omega (arith, reached-most s)
-asks-left {fecf} {s} (again t e l more) = omega (arith, asks-left more, asks-further s t fecf e l)
+asks-left : {managed : ManagedParameters} {s : List ℕ} {n : ℕ} → Asks managed s n → n + reached s ≤ 5
+asks-left {managed} {s} no-more = omega (arith, reached-most s)
+asks-left {managed} {s} (again t e l more) = omega (arith, asks-left more, asks-further s t managed e l)
 
-pub asks-five : {fecf : Bool} {s : List ℕ} {n : ℕ} → Asks fecf s n → n ≤ 5
+pub asks-five : {managed : ManagedParameters} {s : List ℕ} {n : ℕ} → Asks managed s n → n ≤ 5
 asks-five a = omega (arith, asks-left a)
 
 -- and it can be: four octets, seven, the count, the frame of nine octets, and its pointer
-pub asks-all : (fecf : Bool) → Asks fecf [] 5
+pub asks-all : (managed : ManagedParameters) → Asks managed [] 5
 unfolding frameReading headerReading fieldReading
-asks-all fecf =
+asks-all managed =
     again (0xC1 ∷ 0x23 ∷ 0x48 ∷ 0xA6 ∷ []) refl refl
     (again (0x00 ∷ 0x08 ∷ 0x01 ∷ []) refl refl
     (again (0x07 ∷ []) refl refl
@@ -232,7 +235,7 @@ partial =
 
 -- whether octets get SHORT_SOURCE, how many they lack, and whether they get it with the others behind
 abbrev decides : List ℕ × List ℕ → Bool × ℕ × Bool
-decides c = (short (frameReading (c .0) false), lacking (frameReading (c .0) false), short (frameReading (c .0 ++ c .1) false))
+decides c = (short (frameReading (c .0) noFecf), lacking (frameReading (c .0) noFecf), short (frameReading (c .0 ++ c .1) noFecf))
 
 abbrev decided : List ℕ × List ℕ → Bool × ℕ × Bool
 decided c = (true, length (c .1), false)

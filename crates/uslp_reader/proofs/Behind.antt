@@ -14,6 +14,7 @@ use Rattle.uslp_octets.proofs.Laws.{word-front}
 use Rattle.uslp_checksum.specs.Checksum.{checksumOf}
 use Rattle.uslp_kinds.specs.Outcome.{Outcome, done, refused}
 use Rattle.uslp_kinds.specs.Answers.{short, lacking}
+use Rattle.uslp_kinds.specs.declared.ManagedParameters.{ManagedParameters}
 use Rattle.uslp_kinds.specs.declared.OperationalControlField.the-variants.{Present}
 use Rattle.uslp_kinds.proofs.Behind.{Follows, length-row, same-row, same-end, follows-then}
 use Rattle.uslp_primary_header.specs.Header.{lenHeader, lenFrame}
@@ -29,14 +30,14 @@ use Rattle.uslp_reader.proofs.Done.{read-done}
 use Rattle.uslp_reader.proofs.Paths.{contents-there}
 
 -- with both headers read, all that is looked at stands within the frame
-module _ (s t : List ℕ) (fecf : Bool) (h : PrimaryHeader) (whole : lenFrame h ≤ length s) (f : TransferFrameDataFieldHeader) where
+module _ (s t : List ℕ) (managed : ManagedParameters) (h : PrimaryHeader) (whole : lenFrame h ≤ length s) (f : TransferFrameDataFieldHeader) where
   ocf-front : (b : Bool) (i : ℕ) → i + cond b 4 0 ≤ length s → ocfAt b i (s ++ t) ≡ ocfAt b i s
   ocf-front true i h = ap Present (word-front s t i 4 h)
   ocf-front false i h = refl
 
-  frame-front : needed h f fecf ≤ lenFrame h → frameWith h f (lenFrame h - needed h f fecf) (s ++ t) ≡ frameWith h f (lenFrame h - needed h f fecf) s
+  frame-front : needed h f managed ≤ lenFrame h → frameWith h f (lenFrame h - needed h f managed) (s ++ t) ≡ frameWith h f (lenFrame h - needed h f managed) s
   frame-front room =
-      let n : ℕ = lenFrame h - needed h f fecf in
+      let n : ℕ = lenFrame h - needed h f managed in
       let o = ocf-front (h .«ocf_flag») (dataStart h f + n) (omega arith) in
       λ i. record {
         «primary_header» = h;
@@ -46,19 +47,19 @@ module _ (s t : List ℕ) (fecf : Bool) (h : PrimaryHeader) (whole : lenFrame h 
         «data_len» = n;
       }
 
-  body-follows : Follows (length t) (bodyReading h f fecf s) (bodyReading h f fecf (s ++ t))
+  body-follows : Follows (length t) (bodyReading h f managed s) (bodyReading h f managed (s ++ t))
   body-follows =
       same-row _ 7 _ _ _ _ _ _ refl refl refl
       (λ a.
-      let room : needed h f fecf ≤ lenFrame h = ltb-false _ _ a in
+      let room : needed h f managed ≤ lenFrame h = ltb-false _ _ a in
       same-row _ 6 _ _ _ _ _ _ refl
       (ap₂ (λ (m n : ℕ). m ∷ n ∷ []) (word-front s t (lenFrame h - 2) 2 (omega arith))
       (ap checksumOf (take-append-le (lenFrame h - 2) s t (omega arith))))
-      (ap (λ (l : List ℕ). fecf && not (eqb (checksumOf l) 0)) (take-append-le (lenFrame h) s t whole))
+      (ap (λ (l : List ℕ). managed .«has_fecf» && not (eqb (checksumOf l) 0)) (take-append-le (lenFrame h) s t whole))
       (λ b. same-end _ _ _ refl (ap done (frame-front room))))
 
-module _ (s t : List ℕ) (fecf : Bool) (oct : AreOctets (s ++ t)) where
-  frame-follows : Follows (length t) (frameReading s fecf) (frameReading (s ++ t) fecf)
+module _ (s t : List ℕ) (managed : ManagedParameters) (oct : AreOctets (s ++ t)) where
+  frame-follows : Follows (length t) (frameReading s managed) (frameReading (s ++ t) managed)
   unfolding frameReading
   frame-follows =
       follows-then _ _ _ _ _ (header-follows s t oct)
@@ -68,27 +69,27 @@ module _ (s t : List ℕ) (fecf : Bool) (oct : AreOctets (s ++ t)) where
       let u : drop (lenHeader h) (s ++ t) ≡ drop (lenHeader h) s ++ t = drop-append-le (lenHeader h) s t (header-trip.read-long s h e) in
       rw u
       (follows-then _ _ _ _ _ (field-follows (drop (lenHeader h) s) t)
-      (λ f r. body-follows s t fecf h (ltb-false _ _ a) f))))
+      (λ f r. body-follows s t managed h (ltb-false _ _ a) f))))
 
-  pub reading-stays : short (frameReading s fecf) ≡ false → frameReading (s ++ t) fecf ≡ frameReading s fecf
+  pub reading-stays : short (frameReading s managed) ≡ false → frameReading (s ++ t) managed ≡ frameReading s managed
   reading-stays = frame-follows .stays
 
-  pub reading-still : length t < lacking (frameReading s fecf) → short (frameReading (s ++ t) fecf) ≡ true
+  pub reading-still : length t < lacking (frameReading s managed) → short (frameReading (s ++ t) managed) ≡ true
   reading-still = frame-follows .still
 
   -- so octets that get SHORT_SOURCE got it before the last of them came
-  pub reading-before : short (frameReading (s ++ t) fecf) ≡ true → short (frameReading s fecf) ≡ true
-  reading-before e = go (short (frameReading s fecf)) refl
+  pub reading-before : short (frameReading (s ++ t) managed) ≡ true → short (frameReading s managed) ≡ true
+  reading-before e = go (short (frameReading s managed)) refl
     where
-      go : (b : Bool) → short (frameReading s fecf) ≡ b → short (frameReading s fecf) ≡ true
+      go : (b : Bool) → short (frameReading s managed) ≡ b → short (frameReading s managed) ≡ true
       go true r = r
       go false r = absurd (false≢true (sym (ap short (reading-stays r) ∙ r) ∙ e))
 
 -- the data of a frame stay too, and where they stand
-module _ (s t : List ℕ) (fecf : Bool) where
-  data-inside : (x : TransferFrame) → frameReading s fecf ≡ done x → x .«data_start» + x .«data_len» ≤ length s
+module _ (s t : List ℕ) (managed : ManagedParameters) where
+  data-inside : (x : TransferFrame) → frameReading s managed ≡ done x → x .«data_start» + x .«data_len» ≤ length s
   data-inside x e =
-      let r = read-done s fecf x e in
+      let r = read-done s managed x e in
       omega (arith, r .whole, r .room, ap (λ (y : TransferFrame). y .«data_start») (r .frame), ap (λ (y : TransferFrame). y .«data_len») (r .frame))
 
   data-front : (x : TransferFrame) → x .«data_start» + x .«data_len» ≤ length s → contentsIn x (s ++ t) ≡ contentsIn x s
@@ -101,15 +102,15 @@ module _ (s t : List ℕ) (fecf : Bool) where
   place-front : (x : TransferFrame) → x .«data_start» + x .«data_len» ≤ length s → contentsAt x (s ++ t) ≡ contentsAt x s
   place-front x h = simp (le-leb _ _ h, le-leb (x .«data_start» + x .«data_len») (length (s ++ t)) (omega (arith, length-append s t)))
 
-  pub data-stays : AreOctets (s ++ t) → short (frameReading s fecf) ≡ false
-      → (contentsRead (frameReading (s ++ t) fecf) (s ++ t) ≡ contentsRead (frameReading s fecf) s)
-      × (contentsReadAt (frameReading (s ++ t) fecf) (s ++ t) ≡ contentsReadAt (frameReading s fecf) s)
+  pub data-stays : AreOctets (s ++ t) → short (frameReading s managed) ≡ false
+      → (contentsRead (frameReading (s ++ t) managed) (s ++ t) ≡ contentsRead (frameReading s managed) s)
+      × (contentsReadAt (frameReading (s ++ t) managed) (s ++ t) ≡ contentsReadAt (frameReading s managed) s)
   data-stays oct e =
-      let r = reading-stays s t fecf oct e in
-      let go = by (frameReading s fecf) refl in
+      let r = reading-stays s t managed oct e in
+      let go = by (frameReading s managed) refl in
       (ap (λ (o : Outcome TransferFrame). contentsRead o (s ++ t)) r ∙ go .0, ap (λ (o : Outcome TransferFrame). contentsReadAt o (s ++ t)) r ∙ go .1)
     where
-      by : (o : Outcome TransferFrame) → frameReading s fecf ≡ o
+      by : (o : Outcome TransferFrame) → frameReading s managed ≡ o
           → (contentsRead o (s ++ t) ≡ contentsRead o s) × (contentsReadAt o (s ++ t) ≡ contentsReadAt o s)
       by (done x) q = let h = data-inside x q in (data-front x h, place-front x h)
       by (refused k vs) q = (refl, refl)

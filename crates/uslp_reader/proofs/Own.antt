@@ -12,6 +12,7 @@ use Rattle.uslp_octets.specs.Octets.{AreOctets, pack}
 use Rattle.uslp_octets.proofs.Laws.{are-drop, word-take}
 use Rattle.uslp_checksum.specs.Checksum.{checksumOf}
 use Rattle.uslp_kinds.specs.Outcome.{done}
+use Rattle.uslp_kinds.specs.declared.ManagedParameters.{ManagedParameters}
 use Rattle.uslp_kinds.specs.declared.OperationalControlField.the-variants.{Present}
 use Rattle.uslp_primary_header.specs.Header.{table, lenHeader, lenFrame, spareIn, headerReading}
 use Rattle.uslp_primary_header.specs.declared.PrimaryHeader.{PrimaryHeader}
@@ -34,7 +35,7 @@ ocf-same : (b : Bool) (i n : ℕ) (s : List ℕ) → i + cond b 4 0 ≤ n → oc
 ocf-same true i n s h = ap Present (sym (word-take i 4 n s h))
 ocf-same false i n s h = refl
 
-module _ (s : List ℕ) (fecf : Bool) (x : TransferFrame) (oct : AreOctets s) (e : frameReading s fecf ≡ done x) where
+module _ (s : List ℕ) (managed : ManagedParameters) (x : TransferFrame) (oct : AreOctets s) (e : frameReading s managed ≡ done x) where
   abbrev h : PrimaryHeader
   h = x .«primary_header»
 
@@ -47,8 +48,8 @@ module _ (s : List ℕ) (fecf : Bool) (x : TransferFrame) (oct : AreOctets s) (e
   abbrev behind : List ℕ
   behind = take (lenFrame h - lenHeader h) (drop (lenHeader h) s)
 
-  r : ReadDone s fecf x
-  r = read-done s fecf x e
+  r : ReadDone s managed x
+  r = read-done s managed x e
 
   front : own ≡ pack (table (spareIn s) h) ++ behind
   front = front-of (lenFrame h) (lenHeader h) s (omega (arith, r .room)) (header-trip.read-layout s h oct (r .header))
@@ -68,24 +69,24 @@ module _ (s : List ℕ) (fecf : Bool) (x : TransferFrame) (oct : AreOctets s) (e
       ∙ front-of (lenFrame h - lenHeader h) (lenField f) t (omega (arith, r .room)) (field-trip.read-layout t f o (r .field)))
       ∙ field-trip.layout-read f _ (field-trip.read-fitting t f o (r .field))
 
-  same-frame : frameWith h f (lenFrame h - needed h f fecf) s ≡ frameWith h f (lenFrame h - needed h f fecf) own
+  same-frame : frameWith h f (lenFrame h - needed h f managed) s ≡ frameWith h f (lenFrame h - needed h f managed) own
   same-frame =
       λ i. record {
         «primary_header» = h;
         «data_field_header» = f;
         «operational_control_field» = ocf i;
         «data_start» = dataStart h f;
-        «data_len» = lenFrame h - needed h f fecf;
+        «data_len» = lenFrame h - needed h f managed;
       }
     where
-      ocf : ocfAt (h .«ocf_flag») (dataStart h f + (lenFrame h - needed h f fecf)) s
-          ≡ ocfAt (h .«ocf_flag») (dataStart h f + (lenFrame h - needed h f fecf)) own
-      ocf = ocf-same (h .«ocf_flag») (dataStart h f + (lenFrame h - needed h f fecf)) (lenFrame h) s (omega (arith, r .room))
+      ocf : ocfAt (h .«ocf_flag») (dataStart h f + (lenFrame h - needed h f managed)) s
+          ≡ ocfAt (h .«ocf_flag») (dataStart h f + (lenFrame h - needed h f managed)) own
+      ocf = ocf-same (h .«ocf_flag») (dataStart h f + (lenFrame h - needed h f managed)) (lenFrame h) s (omega (arith, r .room))
 
-  pub own-octets : frameReading own fecf ≡ done x
+  pub own-octets : frameReading own managed ≡ done x
   own-octets =
       let long = length-take-le (lenFrame h) s (r .whole) in
-      done-reads own fecf x
+      done-reads own managed x
       (record {
         header = header;
         whole = omega (arith, long);

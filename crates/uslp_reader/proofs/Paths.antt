@@ -10,6 +10,7 @@ use lib.ListN.{length, take, drop}
 use lib.Dec.{eqb}
 use Rattle.uslp_checksum.specs.Checksum.{checksumOf}
 use Rattle.uslp_kinds.specs.Outcome.{Outcome, done, refused}
+use Rattle.uslp_kinds.specs.declared.ManagedParameters.{ManagedParameters}
 use Rattle.uslp_primary_header.specs.Header.{lenHeader, lenFrame, headerReading}
 use Rattle.uslp_primary_header.specs.declared.PrimaryHeader.{PrimaryHeader}
 use Rattle.uslp_data_field_header.specs.Field.{fieldReading}
@@ -52,42 +53,42 @@ module _ (s : List ℕ) where
   pub way : Way s
   way = by-header (headerReading s) refl
 
-module _ (s : List ℕ) (fecf : Bool) where
-  pub reading-header : {k : ℕ} {vs : List ℕ} → headerReading s ≡ refused k vs → frameReading s fecf ≡ refused k vs
+module _ (s : List ℕ) (managed : ManagedParameters) where
+  pub reading-header : {k : ℕ} {vs : List ℕ} → headerReading s ≡ refused k vs → frameReading s managed ≡ refused k vs
   unfolding frameReading
   reading-header e = rw e
 
   module _ (h : PrimaryHeader) (header : headerReading s ≡ done h) where
-    pub reading-short : length s < lenFrame h → frameReading s fecf ≡ refused 1 (length s ∷ lenFrame h ∷ [])
+    pub reading-short : length s < lenFrame h → frameReading s managed ≡ refused 1 (length s ∷ lenFrame h ∷ [])
     unfolding frameReading
     reading-short l = simp (header, lt-ltb _ _ l)
 
     module _ (whole : lenFrame h ≤ length s) where
-      pub reading-field : {k : ℕ} {vs : List ℕ} → fieldReading (drop (lenHeader h) s) ≡ refused k vs → frameReading s fecf ≡ refused k vs
+      pub reading-field : {k : ℕ} {vs : List ℕ} → fieldReading (drop (lenHeader h) s) ≡ refused k vs → frameReading s managed ≡ refused k vs
       unfolding frameReading
       reading-field e = simp (header, le-ltb _ _ whole, e)
 
       module _ (f : TransferFrameDataFieldHeader) (field : fieldReading (drop (lenHeader h) s) ≡ done f) where
-        pub reading-body : frameReading s fecf ≡ bodyReading h f fecf s
+        pub reading-body : frameReading s managed ≡ bodyReading h f managed s
         unfolding frameReading
         reading-body = simp (header, le-ltb _ _ whole, field)
 
-        pub reading-too-short : lenFrame h < needed h f fecf → frameReading s fecf ≡ refused 7 (lenFrame h ∷ needed h f fecf ∷ [])
+        pub reading-too-short : lenFrame h < needed h f managed → frameReading s managed ≡ refused 7 (lenFrame h ∷ needed h f managed ∷ [])
         reading-too-short l = reading-body ∙ simp (lt-ltb _ _ l)
 
-        module _ (room : needed h f fecf ≤ lenFrame h) where
-          pub reading-checksum : {a b : ℕ} → fecf ≡ true → (checksumOf (take (lenFrame h) s) ≡ 0 → ⊥) → a ≡ storedFecf h s → b ≡ computedFecf h s
-              → frameReading s fecf ≡ refused 6 (a ∷ b ∷ [])
+        module _ (room : needed h f managed ≤ lenFrame h) where
+          pub reading-checksum : {a b : ℕ} → managed .«has_fecf» ≡ true → (checksumOf (take (lenFrame h) s) ≡ 0 → ⊥) → a ≡ storedFecf h s → b ≡ computedFecf h s
+              → frameReading s managed ≡ refused 6 (a ∷ b ∷ [])
           reading-checksum t n p q =
-              reading-body ∙ simp (le-ltb _ _ room, wrong fecf _ t n) (ap₂ (λ (x y : ℕ). refused 6 (x ∷ y ∷ [])) (sym p) (sym q))
+              reading-body ∙ simp (le-ltb _ _ room, wrong (managed .«has_fecf») _ t n) (ap₂ (λ (x y : ℕ). refused 6 (x ∷ y ∷ [])) (sym p) (sym q))
 
-          module _ (passes : fecf ≡ true → checksumOf (take (lenFrame h) s) ≡ 0) where
-            pub reading-done : frameReading s fecf ≡ done (frameWith h f (lenFrame h - needed h f fecf) s)
-            reading-done = reading-body ∙ simp (le-ltb _ _ room, right fecf _ passes)
+          module _ (passes : managed .«has_fecf» ≡ true → checksumOf (take (lenFrame h) s) ≡ 0) where
+            pub reading-done : frameReading s managed ≡ done (frameWith h f (lenFrame h - needed h f managed) s)
+            reading-done = reading-body ∙ simp (le-ltb _ _ room, right (managed .«has_fecf») _ passes)
 
             -- the same of a frame made with lengths that locals hold
-            pub reading-frame : {x : TransferFrame} {m n : ℕ} → m ≡ lenFrame h → n ≡ needed h f fecf → x ≡ frameWith h f (m - n) s
-                → frameReading s fecf ≡ done x
+            pub reading-frame : {x : TransferFrame} {m n : ℕ} → m ≡ lenFrame h → n ≡ needed h f managed → x ≡ frameWith h f (m - n) s
+                → frameReading s managed ≡ done x
             reading-frame p q e = reading-done ∙ ap done (sym (e ∙ ap₂ (λ (a b : ℕ). frameWith h f (a - b) s) p q))
 
 pub contents-there : (x : TransferFrame) (s : List ℕ) → x .«data_start» + x .«data_len» ≤ length s

@@ -1,9 +1,9 @@
 -- Frames end to end (docs/RULES.md, section 5.1): what their lengths cut off, until a refusal of the reader or the end.
 use Prim.Native.Nat.{ℕ, zero, suc}
-use mathlib.Core.Bool.{Bool}
 use mathlib.Core.List.{List, [], _∷_}
 use lib.ListN.{length, take, drop}
 use Rattle.uslp_kinds.specs.Outcome.{Outcome, done, refused, andThen}
+use Rattle.uslp_kinds.specs.declared.ManagedParameters.{ManagedParameters}
 use Rattle.uslp_primary_header.specs.Header.{lenFrame}
 use Rattle.uslp_reader.specs.Reader.{frameReading}
 use Rattle.uslp_reader.specs.declared.TransferFrame.{TransferFrame}
@@ -21,15 +21,15 @@ cutAt s (done x) next =
 cutAt s (refused k vs) next = record { frames = []; rest = s }
 
 -- the first number bounds the frames
-unfoldable pub cutUpTo : ℕ → Bool → List ℕ → Cut
-cutUpTo zero fecf s = record { frames = []; rest = s }
-cutUpTo (suc most) fecf s = cutAt s (frameReading s fecf) (cutUpTo most fecf)
+unfoldable pub cutUpTo : ℕ → ManagedParameters → List ℕ → Cut
+cutUpTo zero managed s = record { frames = []; rest = s }
+cutUpTo (suc most) managed s = cutAt s (frameReading s managed) (cutUpTo most managed)
 
 -- each frame has an octet or more, so there are no more frames than octets
-abbrev pub cut : Bool → List ℕ → Cut
-cut fecf s = cutUpTo (length s) fecf s
+abbrev pub cut : ManagedParameters → List ℕ → Cut
+cut managed s = cutUpTo (length s) managed s
 
 -- why nothing more is cut off: nothing is left, or the reader refuses what is
-abbrev pub stopping : Bool → List ℕ → Outcome (Unit {0})
-stopping fecf [] = done tt
-stopping fecf (o ∷ s) = andThen (frameReading (o ∷ s) fecf) (λ (x : TransferFrame). done tt)
+abbrev pub stopping : ManagedParameters → List ℕ → Outcome (Unit {0})
+stopping managed [] = done tt
+stopping managed (o ∷ s) = andThen (frameReading (o ∷ s) managed) (λ (x : TransferFrame). done tt)

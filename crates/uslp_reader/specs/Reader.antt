@@ -3,11 +3,12 @@ use Prim.Native.Nat.{ℕ, _+_, _-_}
 use mathlib.Core.Bool.{Bool, not, cond, _&&_}
 use mathlib.Core.List.{List, [], _∷_}
 use lib.ListN.{length, take, drop}
-use lib.Dec.{ltb, leb, eqb}
-use Rattle.uslp_octets.specs.Octets.{word}
+use lib.Dec.{ltb, eqb}
+use Rattle.uslp_octets.specs.Octets.{word, partIn, partAt}
 use Rattle.uslp_checksum.specs.Checksum.{checksumOf}
 use Rattle.uslp_kinds.specs.Outcome.{Outcome, done, refused, andThen, firstOf}
 use Rattle.uslp_kinds.specs.Answers.{refusal}
+use Rattle.uslp_kinds.specs.declared.ManagedParameters.{ManagedParameters}
 use Rattle.uslp_kinds.specs.declared.OperationalControlField.{OperationalControlField}
 use Rattle.uslp_kinds.specs.declared.OperationalControlField.the-variants.{Absent, Present}
 use Rattle.uslp_primary_header.specs.Header.{lenHeader, lenFrame, headerReading}
@@ -47,30 +48,30 @@ computedFecf h s = checksumOf (take (lenFrame h - 2) s)
 
 -- both headers stand: 7, 6; a frame passes when the checksum over all of it is 0, and 6 carries the FECF as stored and as computed;
 -- the data are what the frame's length leaves over
-abbrev pub bodyReading : PrimaryHeader → TransferFrameDataFieldHeader → Bool → List ℕ → Outcome TransferFrame
-bodyReading h f fecf s =
+abbrev pub bodyReading : PrimaryHeader → TransferFrameDataFieldHeader → ManagedParameters → List ℕ → Outcome TransferFrame
+bodyReading h f managed s =
     firstOf
-    ((ltb (lenFrame h) (needed h f fecf), refused 7 (lenFrame h ∷ needed h f fecf ∷ []))
-    ∷ (fecf && not (eqb (checksumOf (take (lenFrame h) s)) 0), refused 6 (storedFecf h s ∷ computedFecf h s ∷ []))
+    ((ltb (lenFrame h) (needed h f managed), refused 7 (lenFrame h ∷ needed h f managed ∷ []))
+    ∷ (managed .«has_fecf» && not (eqb (checksumOf (take (lenFrame h) s)) 0), refused 6 (storedFecf h s ∷ computedFecf h s ∷ []))
     ∷ [])
-    (done (frameWith h f (lenFrame h - needed h f fecf) s))
+    (done (frameWith h f (lenFrame h - needed h f managed) s))
 
 -- the primary header's refusals, 1 (whole frame), the data field header's, looked for in all of the lent octets, then 7, 6
-unfoldable pub frameReading : List ℕ → Bool → Outcome TransferFrame
-frameReading s fecf =
+unfoldable pub frameReading : List ℕ → ManagedParameters → Outcome TransferFrame
+frameReading s managed =
     andThen (headerReading s)
     (λ (h : PrimaryHeader).
     firstOf
     ((ltb (length s) (lenFrame h), refused 1 (length s ∷ lenFrame h ∷ [])) ∷ [])
-    (andThen (fieldReading (drop (lenHeader h) s)) (λ (f : TransferFrameDataFieldHeader). bodyReading h f fecf s)))
+    (andThen (fieldReading (drop (lenHeader h) s)) (λ (f : TransferFrameDataFieldHeader). bodyReading h f managed s)))
 
 -- the data as a part of the octets; nothing where they do not reach so far
 abbrev pub contentsIn : TransferFrame → List ℕ → List ℕ
-contentsIn x s = cond (leb (x .«data_start» + x .«data_len») (length s)) (take (x .«data_len») (drop (x .«data_start») s)) []
+contentsIn x s = partIn (x .«data_start») (x .«data_len») s
 
 -- where that part starts in the octets: where the data do, and at the front where it is empty for want of octets
 abbrev pub contentsAt : TransferFrame → List ℕ → ℕ
-contentsAt x s = cond (leb (x .«data_start» + x .«data_len») (length s)) (x .«data_start») 0
+contentsAt x s = partAt (x .«data_start») (x .«data_len») s
 
 -- and nothing on a refusal
 abbrev pub contentsRead : Outcome TransferFrame → List ℕ → List ℕ

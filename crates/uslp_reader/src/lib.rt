@@ -2,11 +2,13 @@
 use uslp_checksum::checksum;
 use uslp_data_field_header::DataFieldHeaderAnswer;
 use uslp_data_field_header::TransferFrameDataFieldHeader;
+use uslp_kinds::ManagedParameters;
 use uslp_kinds::OperationalControlField;
 use uslp_kinds::Refusal;
 use uslp_kinds::SourceOrDestField;
 use uslp_octets::be_u16;
 use uslp_octets::be_u32;
+use uslp_octets::part;
 use uslp_primary_header::HeaderAnswer;
 use uslp_primary_header::PrimaryHeader;
 ghost use mathlib.Core.Path.{_≡_};
@@ -37,11 +39,11 @@ pub enum FrameAnswer {
 impl TransferFrame {
     // Refuses, in this order: SHORT_SOURCE, TRUNCATED, SHORT_SOURCE, BAD_VERSION, SHORT_SOURCE (count, whole frame, data field
     // header), BAD_PROTOCOL, FRAME_TOO_SHORT, BAD_CHECKSUM.
-    pub fn from_bytes(buf: &[u8], has_fecf: bool) -> FrameAnswer
-        ensures { λ r. ⌜ paperFrame r ≡ frameReading (now (buf .entry)) «has_fecf» ⌝ }
+    pub fn from_bytes(buf: &[u8], managed: ManagedParameters) -> FrameAnswer
+        ensures { λ r. ⌜ paperFrame r ≡ frameReading (now (buf .entry)) managed ⌝ }
     {
         match PrimaryHeader::from_bytes(buf) {
-            HeaderAnswer::Done(header) => read_whole(buf, has_fecf, header),
+            HeaderAnswer::Done(header) => read_whole(buf, managed, header),
             HeaderAnswer::Refused(refusal) => FrameAnswer::Refused(refusal),
         }
     }
@@ -110,17 +112,7 @@ impl TransferFrame {
     pub fn data(self, buf: &[u8]) -> &[u8]
         ensures { λ r. ⌜ PartOf (buf .entry) (contentsAt self (now (buf .entry))) (contentsIn self (now (buf .entry))) r ⌝ }
     {
-        let start = self.data_start;
-        let len = self.data_len;
-        let found = buf.len();
-        if start > found {
-            return &buf[0..0];
-        }
-        if len > found - start {
-            return &buf[0..0];
-        }
-        let end = start + len;
-        &buf[start..end]
+        part(buf, self.data_start, self.data_len)
     }
 }
 
@@ -135,9 +127,9 @@ pub fn data_of(answer: FrameAnswer, buf: &[u8]) -> &[u8]
 }
 
 // The frame whose header stands: SHORT_SOURCE (whole frame), then the data field header's.
-fn read_whole(buf: &[u8], has_fecf: bool, header: PrimaryHeader) -> FrameAnswer
+fn read_whole(buf: &[u8], managed: ManagedParameters, header: PrimaryHeader) -> FrameAnswer
     requires { ⌜ headerReading (now buf) ≡ done header ⌝ }
-    ensures { λ r. ⌜ paperFrame r ≡ frameReading (now (buf .entry)) «has_fecf» ⌝ }
+    ensures { λ r. ⌜ paperFrame r ≡ frameReading (now (buf .entry)) managed ⌝ }
 {
     let found = buf.len();
     let expected = header.len_frame();
@@ -146,7 +138,7 @@ fn read_whole(buf: &[u8], has_fecf: bool, header: PrimaryHeader) -> FrameAnswer
     }
     let start = header.len_header();
     match TransferFrameDataFieldHeader::from_bytes(&buf[start..]) {
-        DataFieldHeaderAnswer::Done(field) => read_body(buf, has_fecf, header, field),
+        DataFieldHeaderAnswer::Done(field) => read_body(buf, managed, header, field),
         DataFieldHeaderAnswer::Refused(refusal) => FrameAnswer::Refused(refusal),
     }
 }
@@ -154,7 +146,7 @@ fn read_whole(buf: &[u8], has_fecf: bool, header: PrimaryHeader) -> FrameAnswer
 // The frame whose two headers stand: FRAME_TOO_SHORT, BAD_CHECKSUM.
 fn read_body(
     buf: &[u8],
-    has_fecf: bool,
+    managed: ManagedParameters,
     header: PrimaryHeader,
     field: TransferFrameDataFieldHeader,
 ) -> FrameAnswer
@@ -163,14 +155,14 @@ fn read_body(
         × (lenFrame header ≤ length (now buf))
         × (fieldReading (drop (lenHeader header) (now buf)) ≡ done field)
         ⌝ }
-    ensures { λ r. ⌜ paperFrame r ≡ frameReading (now (buf .entry)) «has_fecf» ⌝ }
+    ensures { λ r. ⌜ paperFrame r ≡ frameReading (now (buf .entry)) managed ⌝ }
 {
     let length = header.len_frame();
-    let needed = uslp_layout::needed_len(header, field, has_fecf);
+    let needed = uslp_layout::needed_len(header, field, managed);
     if length < needed {
         return FrameAnswer::Refused(Refusal::FrameTooShort { length, needed });
     }
-    if has_fecf {
+    if managed.has_fecf {
         let stored = be_u16(buf[length - 2], buf[length - 1]);
         // the register as it stands before the FECF: the one pass gives the test and the number that a refusal shows
         let computed = checksum(&buf[0..length - 2]);

@@ -10,9 +10,9 @@ use Rattle.uslp_record.specs.declared.Channel.{Channel}
 use Rattle.uslp_record.specs.declared.SlotState.the-variants.{Closed, Opened}
 use Rattle.uslp_record.specs.declared.ChannelRecord.{ChannelRecord}
 
--- an answer and a record that are known, joined
-pub joined : {A : Type 0} {o p : Outcome A} {r q : ChannelRecord} → o ≡ p → r ≡ q → keeping o r ≡ keeping p q
-joined e f = cc
+-- an answer and a record that are known
+pub kept-as : {A : Type 0} {o p : Outcome A} {r q : ChannelRecord} → o ≡ p → r ≡ q → keeping o r ≡ keeping p q
+kept-as e f = cc
 
 module _ (r : ChannelRecord) (k : Channel) (w : ℕ) where
   pub opening-channel : 63 < k .«vc_id» → keeping (refused 10 []) r ≡ opening r k w

@@ -2,14 +2,16 @@
 use mathlib.Core.Path.{_≡_, refl, sym, _∙_, ap}
 use mathlib.Core.Bool.{Bool, true, false, not}
 use mathlib.Core.List.{List, [], _∷_}
-use Prim.Native.Nat.{ℕ, _<_, _≤_}
+use Prim.Native.Nat.{ℕ, _<_, _≤_, _^_}
 use native.Mathlib.Omega.{arith}
 use lib.Dec.{eqb, leb, ltb}
 use borrow.Author.Tests.{lt-ltb, le-ltb, le-leb, lt-leb, eq-eqb, ne-eqb}
 use Rattle.uslp_kinds.specs.Outcome.{Outcome, done, refused, firstOf}
+use Rattle.uslp_kinds.specs.Kinds.{countBad}
 use Rattle.uslp_kinds.proofs.Outcomes.{not-done}
+use Rattle.uslp_kinds.proofs.Firsts.{Check, refusing}
 use Rattle.uslp_record.proofs.Count.{full-after}
-use Rattle.uslp_record.specs.Slots.{find, slotOf, stateAt}
+use Rattle.uslp_record.specs.Slots.{find, slotOf, stateAt, Change}
 use Rattle.uslp_record.specs.Judging.{ahead, arrivalOf, totalsAfter, firstTotals, overfull, arrivalAt, totalsAt, widthAt, judging, slotJudging}
 use Rattle.uslp_record.specs.declared.Channel.{Channel}
 use Rattle.uslp_record.specs.declared.Totals.{Totals}
@@ -19,7 +21,6 @@ use Rattle.uslp_record.specs.declared.Slot.{Slot}
 use Rattle.uslp_record.specs.declared.ChannelRecord.{ChannelRecord}
 use Rattle.uslp_record.specs.declared.Arrival.{Arrival}
 use Rattle.uslp_record.specs.declared.Arrival.the-variants.{New}
-use Rattle.uslp_record.specs.declared.Change.{Change}
 use Rattle.uslp_record.specs.declared.counting.Step.{Step}
 
 -- a step to a frame that is `arrival`, with `after` for the totals after it
@@ -43,13 +44,13 @@ pub steps-later : (s : Step) (state : SlotState) (k : Channel) (w n d : ℕ) (a 
     Steps s a (totalsAfter a n t) → Steps s (arrivalAt state n) (totalsAt state n)
 steps-later s state k w n d a t is e f h = rw is (rw (← e, ← f) h)
 
--- the checks behind the first answer otherwise
-others : (a b c : Bool) (x : Arrival × Change) (us : List ℕ) {vs : List ℕ}
-    → firstOf ((a, refused 13 []) ∷ (b, refused 14 us) ∷ (c, refused 17 []) ∷ []) (done x) ≡ refused 10 vs → ⊥
-others true b c x us e = let z : _≡_ {A = ℕ} 13 10 = cc in omega arith
-others false true c x us e = let z : _≡_ {A = ℕ} 14 10 = cc in omega arith
-others false false true x us e = let z : _≡_ {A = ℕ} 17 10 = cc in omega arith
-others false false false x us e = not-done (sym e)
+-- the checks behind those of width and count have numbers from 13 on
+others : (a b c : Bool) (x : Arrival × Change) (us : List ℕ) {j : ℕ} {vs : List ℕ}
+    → firstOf ((a, refused 13 []) ∷ (b, refused 14 us) ∷ (c, refused 17 []) ∷ []) (done x) ≡ refused j vs → 13 ≤ j
+others true b c x us {j} e = let z : 13 ≡ j = cc in omega arith
+others false true c x us {j} e = let z : 14 ≡ j = cc in omega arith
+others false false true x us {j} e = let z : 17 ≡ j = cc in omega arith
+others false false false x us e = absurd (not-done (sym e))
 
 -- the slot that holds the channel, by its checks
 module _ (x : Slot) (k : Channel) (w n : ℕ) where
@@ -57,75 +58,91 @@ module _ (x : Slot) (k : Channel) (w n : ℕ) where
   unfolding slotJudging
   slot-wide h = simp (lt-ltb 7 w h)
 
-  module _ (narrow : w ≤ 7) (v : ℕ) (opened : v ≡ widthAt (x .state)) where
-    pub slot-width : (w ≡ v → ⊥) → slotJudging x k w n ≡ refused 14 (w ∷ v ∷ [])
+  module _ (narrow : w ≤ 7) where
+    pub slot-count : 256 ^ w ≤ n → slotJudging x k w n ≡ refused 8 (n ∷ w ∷ [])
     unfolding slotJudging
-    slot-width h = rw (← opened) (simp (le-ltb 7 w narrow, ne-eqb w v h))
+    slot-count h = simp (le-ltb 7 w narrow, le-leb (256 ^ w) n h)
 
-    module _ (s : Step) (same : w ≡ v) (step : Steps s (arrivalAt (x .state) n) (totalsAt (x .state) n)) where
-      pub slot-full : s .full ≡ true → slotJudging x k w n ≡ refused 17 []
+    module _ (fits : n < 256 ^ w) (v : ℕ) (opened : v ≡ widthAt (x .state)) where
+      pub slot-width : (w ≡ v → ⊥) → slotJudging x k w n ≡ refused 14 (w ∷ v ∷ [])
       unfolding slotJudging
-      slot-full h = rw (← opened) (simp (le-ltb 7 w narrow, eq-eqb w v same, sym (step .0) ∙ h))
+      slot-width h = rw (← opened) (simp (le-ltb 7 w narrow, lt-leb (256 ^ w) n fits, ne-eqb w v h))
 
-      pub slot-done : s .full ≡ false → slotJudging x k w n ≡ done (s .arrival, slotOf (Heard k w (s .totals)))
-      unfolding slotJudging
-      slot-done h = rw (← opened, step .1, step .2 h) (simp (le-ltb 7 w narrow, eq-eqb w v same, sym (step .0) ∙ h))
+      module _ (s : Step) (same : w ≡ v) (step : Steps s (arrivalAt (x .state) n) (totalsAt (x .state) n)) where
+        pub slot-full : s .full ≡ true → slotJudging x k w n ≡ refused 17 []
+        unfolding slotJudging
+        slot-full h = rw (← opened) (simp (le-ltb 7 w narrow, lt-leb (256 ^ w) n fits, eq-eqb w v same, sym (step .0) ∙ h))
+
+        pub slot-done : s .full ≡ false → slotJudging x k w n ≡ done (s .arrival, slotOf (Heard k w (s .totals)))
+        unfolding slotJudging
+        slot-done h =
+            rw (← opened, step .1, step .2 h) (simp (le-ltb 7 w narrow, lt-leb (256 ^ w) n fits, eq-eqb w v same, sym (step .0) ∙ h))
 
 -- what is judged of the slot at a place, as a change
 abbrev pub changing : ℕ → Outcome (Arrival × Slot) → Outcome (Arrival × Change)
 changing i (done y) = done (y .0, record { at = i; state = y .1 .state })
 changing i (refused j vs) = refused j vs
 
-changing-first : (i : ℕ) (a b c : Bool) (us vs : List ℕ) (x : Arrival) (t : SlotState)
-    → firstOf ((a, refused 10 []) ∷ (b, refused 14 us) ∷ (c, refused 17 vs) ∷ []) (done (x, record { at = i; state = t }))
-    ≡ changing i (firstOf ((a, refused 10 []) ∷ (b, refused 14 us) ∷ (c, refused 17 vs) ∷ []) (done (x, slotOf t)))
-changing-first i true b c us vs x t = refl
-changing-first i false true c us vs x t = refl
-changing-first i false false true us vs x t = refl
-changing-first i false false false us vs x t = refl
+changing-checks : (i : ℕ) (cs : List Check) (x : Arrival) (t : SlotState)
+    → firstOf (refusing cs) (done (x, record { at = i; state = t })) ≡ changing i (firstOf (refusing cs) (done (x, slotOf t)))
+changing-checks i [] x t = refl
+changing-checks i ((true, k, vs) ∷ cs) x t = refl
+changing-checks i ((false, k, vs) ∷ cs) x t = changing-checks i cs x t
 
 module _ (r : ChannelRecord) (k : Channel) (w n : ℕ) where
   pub judging-wide : 7 < w → judging r k w n ≡ refused 10 []
   unfolding judging
   judging-wide h = simp (lt-ltb 7 w h)
 
-  module _ (narrow : w ≤ 7) (i : ℕ) (is : i ≡ find k (r .slots)) where
-    pub judging-none : 8 ≤ i → judging r k w n ≡ refused 13 []
+  pub judging-count : w ≤ 7 → 256 ^ w ≤ n → judging r k w n ≡ refused 8 (n ∷ w ∷ [])
+  unfolding judging
+  judging-count narrow h = simp (le-ltb 7 w narrow, le-leb (256 ^ w) n h)
+
+  module _ (i : ℕ) (is : i ≡ find k (r .slots)) where
+    pub judging-none : w ≤ 7 → n < 256 ^ w → 8 ≤ i → judging r k w n ≡ refused 13 []
     unfolding judging
-    judging-none h = rw (← is) (simp (le-ltb 7 w narrow, le-leb 8 i h))
+    judging-none narrow fits h = rw (← is) (simp (le-ltb 7 w narrow, lt-leb (256 ^ w) n fits, le-leb 8 i h))
 
     -- a channel that is found is judged by its slot
     pub judging-slot : i < 8 → judging r k w n ≡ changing i (slotJudging (slotOf (stateAt r i)) k w n)
     unfolding judging slotJudging
-    judging-slot there = rw (← is) (simp (lt-leb 8 i there)
-        (changing-first i (ltb 7 w) (not (eqb w (widthAt (stateAt r i)))) (overfull (totalsAt (stateAt r i) n)) (w ∷ widthAt (stateAt r i) ∷ []) []
+    judging-slot there =
+        rw (← is)
+        (simp (lt-leb 8 i there)
+        (changing-checks i
+        ((ltb 7 w, 10, [])
+        ∷ (countBad w n, 8, n ∷ w ∷ [])
+        ∷ (not (eqb w (widthAt (stateAt r i))), 14, w ∷ widthAt (stateAt r i) ∷ [])
+        ∷ (overfull (totalsAt (stateAt r i) n), 17, [])
+        ∷ [])
         (arrivalAt (stateAt r i) n) (Heard k w (totalsAt (stateAt r i) n))))
 
-  -- a width that a frame has is never a bad field
-  pub judging-field : w ≤ 7 → {vs : List ℕ} → judging r k w n ≡ refused 10 vs → ⊥
+  -- a width and a count that a frame has are refused by 13, 14 or 17 alone
+  pub judging-late : w ≤ 7 → n < 256 ^ w → {j : ℕ} {vs : List ℕ} → judging r k w n ≡ refused j vs → 13 ≤ j
   unfolding judging
-  judging-field narrow e =
+  judging-late narrow fits e =
       let i = find k (r .slots) in
-      others (leb 8 i) (not (eqb w (widthAt (stateAt r i)))) (overfull (totalsAt (stateAt r i) n)) _ _ (simp (le-ltb 7 w narrow) at e)
+      others (leb 8 i) (not (eqb w (widthAt (stateAt r i)))) (overfull (totalsAt (stateAt r i) n)) _ _
+      (simp (le-ltb 7 w narrow, lt-leb (256 ^ w) n fits) at e)
 
 -- a frame of the channel, for whoever knows what stands in its slot
-module _ (r : ChannelRecord) (k : Channel) (w n : ℕ) (narrow : w ≤ 7) (there : find k (r .slots) < 8) (u : SlotState)
+module _ (r : ChannelRecord) (k : Channel) (w n : ℕ) (narrow : w ≤ 7) (fits : n < 256 ^ w) (there : find k (r .slots) < 8) (u : SlotState)
     (is : stateAt r (find k (r .slots)) ≡ u) where
   by-slot : {o : Outcome (Arrival × Slot)} → slotJudging (slotOf u) k w n ≡ o → judging r k w n ≡ changing (find k (r .slots)) o
   by-slot e =
-      judging-slot r k w n narrow (find k (r .slots)) refl there
+      judging-slot r k w n (find k (r .slots)) refl there
       ∙ ap (changing (find k (r .slots))) (ap (λ (t : SlotState). slotJudging (slotOf t) k w n) is ∙ e)
 
   pub judged-width : (w ≡ widthAt u → ⊥) → judging r k w n ≡ refused 14 (w ∷ widthAt u ∷ [])
-  judged-width odd = by-slot (slot-width (slotOf u) k w n narrow (widthAt u) refl odd)
+  judged-width odd = by-slot (slot-width (slotOf u) k w n narrow fits (widthAt u) refl odd)
 
   module _ (wide : w ≡ widthAt u) where
     abbrev own : Bool → Step
     own b = record { full = b; arrival = arrivalAt u n; totals = totalsAt u n }
 
     pub judged-full : overfull (totalsAt u n) ≡ true → judging r k w n ≡ refused 17 []
-    judged-full e = by-slot (slot-full (slotOf u) k w n narrow w wide (own true) refl (sym e, refl, λ f. refl) refl)
+    judged-full e = by-slot (slot-full (slotOf u) k w n narrow fits w wide (own true) refl (sym e, refl, λ f. refl) refl)
 
     pub judged-done : overfull (totalsAt u n) ≡ false
         → judging r k w n ≡ done (arrivalAt u n, record { at = find k (r .slots); state = Heard k w (totalsAt u n) })
-    judged-done e = by-slot (slot-done (slotOf u) k w n narrow w wide (own false) refl (sym e, refl, λ f. refl) refl)
+    judged-done e = by-slot (slot-done (slotOf u) k w n narrow fits w wide (own false) refl (sym e, refl, λ f. refl) refl)

@@ -8,10 +8,11 @@ use native.Mathlib.Decide.{ℕ-discrete, decLt}
 use borrow.Author.Tests.{ltb-false, le-ltb}
 use lib.Dec.{eqb, ltb}
 use lib.ListN.{getD, length-set, getD-replicate, List·getD-eq-default, length-replicate}
-use Rattle.uslp_record.specs.Slots.{stateHolds, holds, find, vacant, slotOf, stateAt, put, emptyRecord}
-use Rattle.uslp_record.specs.Record.{Kept, keeping, opening, closing, most, missingOf, tooMuchIn}
-use Rattle.uslp_record.specs.Judging.{ahead, arrivalOf, totalsAfter, firstTotals, overfull, totalsAt, widthAt}
-use Rattle.uslp_record.specs.Made.{Distinct, Openable, Tallied, Sound, Made}
+use Rattle.uslp_kinds.specs.Outcome.{Outcome}
+use Rattle.uslp_record.specs.Slots.{stateHolds, holds, find, vacant, slotOf, stateAt, put, Change, emptyRecord}
+use Rattle.uslp_record.specs.Record.{Kept, keeping, applied, opening, closing, most, missingOf, tooMuchIn}
+use Rattle.uslp_record.specs.Judging.{ahead, arrivalOf, totalsAfter, firstTotals, overfull, totalsAt, widthAt, countHearing}
+use Rattle.uslp_record.specs.Made.{Distinct, Openable, SoundTotals, Sound, Made}
 use Rattle.uslp_record.specs.declared.Channel.{Channel}
 use Rattle.uslp_record.specs.declared.Totals.{Totals}
 use Rattle.uslp_record.specs.declared.SlotState.{SlotState}
@@ -23,7 +24,7 @@ use Rattle.uslp_record.specs.declared.Arrival.the-variants.{New, Repeat,
 use Rattle.uslp_record.proofs.Seek.{finds}
 use Rattle.uslp_record.proofs.Count.{full-not}
 use Rattle.uslp_record.proofs.Slots.{true-false, same-one, seek-passes, seek-none, put-same, put-other}
-use Rattle.uslp_record.proofs.Ways.{Judged, opening-ways, closing-ways}
+use Rattle.uslp_record.proofs.Ways.{Judged, opening-ways, closing-ways, judging-ways}
 
 -- the record that a call leaves
 abbrev pub left : {A : Type 0} → Kept A → ChannelRecord
@@ -35,22 +36,29 @@ or-none true b c e = absurd (true-false refl e)
 or-none false true c e = absurd (true-false refl e)
 or-none false false c e = (refl, refl, e)
 
+pub allowed-width : (k : Channel) (w : ℕ) → (ltb 63 (k .«vc_id») || eqb w 0 || ltb 7 w) ≡ false → (1 ≤ w) × (w ≤ 7)
+allowed-width k w e =
+    let h = or-none (ltb 63 (k .«vc_id»)) (eqb w 0) (ltb 7 w) e in (
+      elim (decLt 0 w) [ yes a ↦ a | no a ↦ absurd (true-false (ap (λ (v : ℕ). eqb v 0) (let z : w ≡ 0 = omega arith in z)) (h .1)) ],
+      ltb-false 7 w (h .2),
+    )
+
 openable : (k : Channel) (w : ℕ) → k .«spacecraft_id» < 2 ^ 16 → (ltb 63 (k .«vc_id») || eqb w 0 || ltb 7 w) ≡ false → Openable k w
 openable k w craft e =
     let h = or-none (ltb 63 (k .«vc_id»)) (eqb w 0) (ltb 7 w) e in
     record {
       craft = craft;
       channel = ltb-false 63 (k .«vc_id») (h .0);
-      some = elim (decLt 0 w) [ yes a ↦ a | no a ↦ absurd (true-false (ap (λ (v : ℕ). eqb v 0) (let z : w ≡ 0 = omega arith in z)) (h .1)) ];
-      narrow = ltb-false 7 w (h .2);
+      some = allowed-width k w e .0;
+      narrow = allowed-width k w e .1;
     }
 
 -- totals after a frame whose count fits the width
 module _ (w n : ℕ) (fits : n < 256 ^ w) where
-  tallied-first : Tallied w (firstTotals n)
+  tallied-first : SoundTotals w (firstTotals n)
   tallied-first = record { last = fits; begun = omega arith; «handed_on» = omega arith; missing = omega arith; repeats = omega arith; late = omega arith }
 
-  tallied-after : (a : Arrival) (t : Totals) → Tallied w t → overfull (totalsAfter a n t) ≡ false → Tallied w (totalsAfter a n t)
+  tallied-after : (a : Arrival) (t : Totals) → SoundTotals w t → overfull (totalsAfter a n t) ≡ false → SoundTotals w (totalsAfter a n t)
   tallied-after (New gap) t c e =
       let f = full-not (totalsAfter (New gap) n t) e in
       record { last = fits; begun = omega arith; «handed_on» = f .0; missing = f .1; repeats = f .2; late = f .3 }
@@ -70,7 +78,7 @@ heard-sound (Opened c v) k w n s h e fits room =
     (subst (Openable c) (sym e) s, tallied-first w n fits)
 heard-sound (Heard c v t) k w n s h e fits room =
     subst (λ (x : Channel). Sound (Heard x w (totalsAt (Heard c v t) n))) (same-one c k h)
-    (subst (Openable c) (sym e) (s .0), tallied-after w n fits (arrivalOf v (ahead v n (t .last))) t (subst (λ (z : ℕ). Tallied z t) (sym e) (s .1)) room)
+    (subst (Openable c) (sym e) (s .0), tallied-after w n fits (arrivalOf v (ahead v n (t .last))) t (subst (λ (z : ℕ). SoundTotals z t) (sym e) (s .1)) room)
 
 module _ (r : ChannelRecord) (made : Made r) where
   -- a slot replaced by what is sound and no other holds
@@ -119,15 +127,18 @@ module _ (r : ChannelRecord) (made : Made r) where
       closing-ways r k (λ (q : Kept (Unit {0})). Made (left q)) (λ j vs. made)
       (λ low. made-put (find k (r .slots)) Closed low tt (λ k′ j hj n x y. true-false x refl))
 
-  -- a frame of a count that its width has
-  pub made-judged : (k : Channel) (w n : ℕ) → n < 256 ^ w → Judged r k w n
+  made-judged : (k : Channel) (w n : ℕ) → Judged r k w n
       → Made (put r (find k (r .slots)) (Heard k w (totalsAt (stateAt r (find k (r .slots))) n)))
-  made-judged k w n fits d =
+  made-judged k w n d =
       let i = find k (r .slots) in
       let own = seek-passes (holds k) (find k) (finds k) (r .slots) (slotOf Closed) (omega (arith, made .eight, d .low)) in
       made-put i (Heard k w (totalsAt (stateAt r i) n)) (d .low)
-      (heard-sound (stateAt r i) k w n (made .sound i) own (d .wide) fits (d .room))
+      (heard-sound (stateAt r i) k w n (made .sound i) own (d .wide) (d .fits) (d .room))
       (λ k′ j hj m x y. m (made .once k j i hj (d .low) (moved k k′ (stateAt r j) (same-one k k′ x) y) own))
+
+  -- a frame, whatever its width and count
+  pub made-counting : (k : Channel) (w n : ℕ) → Made (left (countHearing r k w n))
+  made-counting k w n = judging-ways r k (λ (o : Outcome (Arrival × Change)). Made (left (applied r o))) w n (λ j vs. made) (made-judged k w n)
 
 -- a record with no channel open
 closed-empty : (i : ℕ) → stateAt emptyRecord i ≡ Closed

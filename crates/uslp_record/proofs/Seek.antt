@@ -1,4 +1,4 @@
--- Laws of the search over eight slots, for whichever slot is sought, and of a slot replaced past the end.
+-- Laws of the search over eight slots, for whichever slot is sought.
 use mathlib.Core.Path.{_≡_, refl, sym, _∙_, ap}
 use mathlib.Core.Bool.{Bool, true, false, cond}
 use mathlib.Core.List.{List, [], _∷_, map}
@@ -6,20 +6,26 @@ use Prim.Native.Nat.{ℕ, suc, _+_, _<_, _≤_}
 use native.Mathlib.Numerals.{add-one}
 use native.Mathlib.Omega.{arith}
 use lib.ListN.{length, drop, getD, length-map, drop-of-length-le}
-use lib.Seq.{drop-cons, set-out}
+use lib.Seq.{drop-cons}
 use borrow.Author.Tests.{eq-eqb, ne-eqb}
 use lib.Dec.{eqb}
 use Rattle.uslp_kinds.specs.Kinds.{bypassNumber}
+use mir.Val.{Val}
+use denote.Laws.{Is}
+use denote.Struct.Declared.{row}
+use Rattle.uslp_record.proofs.ChannelRecord as record-type
 use Rattle.uslp_record.proofs.Slot as slot-type
-use Rattle.uslp_record.specs.Slots.{sameChannel, holds, isClosed, find, vacant, slotOf, put}
+use Rattle.uslp_record.specs.Slots.{sameChannel, holds, isClosed, find, vacant}
 use Rattle.uslp_record.specs.declared.Channel.{Channel}
-use Rattle.uslp_record.specs.declared.SlotState.{SlotState}
 use Rattle.uslp_record.specs.declared.Slot.{Slot}
 use Rattle.uslp_record.specs.declared.ChannelRecord.{ChannelRecord}
 
--- what a function is told of a record at its entry, `c .good .0 .1 .1 .0 .1 .0 .1`, says that it has eight slots
-pub long-of : (l : List Slot) → length (map (slot-type.the-field .into) l) ≡ 8 → length l ≡ 8
+long-of : (l : List Slot) → length (map (slot-type.the-field .into) l) ≡ 8 → length l ≡ 8
 long-of l e = sym (length-map l (slot-type.the-field .into)) ∙ e
+
+-- what a function is told at its entry of a record that it is passed, `c .good .0`, says that it has eight slots
+pub eight-slots : (r : ChannelRecord) {vs : List Val} → Is (row record-type.the-type) r vs → length (r .slots) ≡ 8
+eight-slots r h = long-of (r .slots) (h .1 .1 .0 .1 .0 .1)
 
 -- f seeks the first slot that passes the test
 pub record Seeks (test : Slot → Bool) (f : List Slot → ℕ) : Type 0 where
@@ -60,7 +66,3 @@ module _ (a b : Channel) where
 
     pub same-flag : a .«vc_id» ≡ b .«vc_id» → eqb (bypassNumber (a .«sequence_control_flag»)) (bypassNumber (b .«sequence_control_flag»)) ≡ sameChannel a b
     same-flag g = simp (eq-eqb (a .«spacecraft_id») (b .«spacecraft_id») h, eq-eqb (a .«vc_id») (b .«vc_id») g)
-
--- a slot past the end is none of the eight
-pub put-past : (r : ChannelRecord) (i : ℕ) (t : SlotState) → length (r .slots) ≡ 8 → 8 ≤ i → r ≡ put r i t
-put-past r i t long h = rw (set-out (r .slots) i (slotOf t) (omega arith))

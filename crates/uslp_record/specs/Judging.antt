@@ -1,12 +1,13 @@
 -- Hearing a frame of a channel, as numbers (docs/RULES.md, section 6.3): NEW, REPEAT or LATE, and the totals that it leaves.
 use Prim.Native.Nat.{ℕ, _+_, _-_, _^_, _%_, _/_}
 use mathlib.Core.Bool.{Bool, cond, not, _||_}
-use mathlib.Core.List.{List, [], _∷_}
+use mathlib.Core.List.{List, [], _∷_, _++_}
 use lib.Dec.{eqb, leb, ltb}
 use Rattle.uslp_kinds.specs.Outcome.{Outcome, done, refused, firstOf}
+use Rattle.uslp_kinds.specs.Kinds.{countBad}
 use Rattle.uslp_kinds.specs.Answers.{refusal}
-use Rattle.uslp_record.specs.Slots.{find, slotOf, stateAt, changed}
-use Rattle.uslp_record.specs.Record.{Kept, keeping, most}
+use Rattle.uslp_record.specs.Slots.{find, slotOf, stateAt, Change}
+use Rattle.uslp_record.specs.Record.{Kept, applied, most}
 use Rattle.uslp_record.specs.declared.Channel.{Channel}
 use Rattle.uslp_record.specs.declared.Totals.{Totals}
 use Rattle.uslp_record.specs.declared.SlotState.{SlotState}
@@ -14,16 +15,15 @@ use Rattle.uslp_record.specs.declared.SlotState.the-variants.{Closed, Op
 use Rattle.uslp_record.specs.declared.ChannelRecord.{ChannelRecord}
 use Rattle.uslp_record.specs.declared.Arrival.{Arrival}
 use Rattle.uslp_record.specs.declared.Arrival.the-variants.{New, Repeat, Late}
-use Rattle.uslp_record.specs.declared.Change.{Change}
-use Rattle.uslp_record.specs.declared.CountAnswer.{CountAnswer}
-use Rattle.uslp_record.specs.declared.CountAnswer.the-variants as count-answer
+use Rattle.uslp_record.specs.declared.ArrivalAnswer.{ArrivalAnswer}
+use Rattle.uslp_record.specs.declared.ArrivalAnswer.the-variants as arrival-answer
 use Rattle.uslp_record.specs.declared.Slot.{Slot}
 use Rattle.uslp_record.specs.declared.SlotAnswer.{SlotAnswer}
 use Rattle.uslp_record.specs.declared.SlotAnswer.the-variants as slot-answer
 
-abbrev pub paperCount : CountAnswer → Outcome (Arrival × Change)
-paperCount (count-answer.Done arrival change) = done (arrival, change)
-paperCount (count-answer.Refused r) = refusal r
+abbrev pub paperArrival : ArrivalAnswer → Outcome Arrival
+paperArrival (arrival-answer.Done arrival) = done arrival
+paperArrival (arrival-answer.Refused r) = refusal r
 
 abbrev pub paperSlot : SlotAnswer → Outcome (Arrival × Slot)
 paperSlot (slot-answer.Done arrival slot) = done (arrival, slot)
@@ -73,12 +73,16 @@ slotChecks t width count =
     ∷ (overfull (totalsAt t count), refused 17 [])
     ∷ []
 
--- a channel's frame with this width and count, and what it changes: 10 for a width that no frame has, 13, 14, 17
+-- a width and a count that no frame has: 10, 8
+abbrev pub countChecks : {A : Type 0} → ℕ → ℕ → List (Bool × Outcome A)
+countChecks width count = (ltb 7 width, refused 10 []) ∷ (countBad width count, refused 8 (count ∷ width ∷ [])) ∷ []
+
+-- a channel's frame with this width and count, and what it changes: 10, 8, 13, 14, 17
 unfoldable pub judging : ChannelRecord → Channel → ℕ → ℕ → Outcome (Arrival × Change)
 judging r k width count =
     firstOf
-    ((ltb 7 width, refused 10 [])
-    ∷ (leb 8 (find k (r .slots)), refused 13 [])
+    (countChecks width count
+    ++ (leb 8 (find k (r .slots)), refused 13 [])
     ∷ slotChecks (stateAt r (find k (r .slots))) width count)
     (done (
       arrivalAt (stateAt r (find k (r .slots))) count,
@@ -86,14 +90,13 @@ judging r k width count =
           { at = find k (r .slots); state = Heard k width (totalsAt (stateAt r (find k (r .slots))) count) },
     ))
 
--- the same for whoever has the slot: 10, 14, 17, and the slot after it
+-- hearing it
+abbrev pub countHearing : ChannelRecord → Channel → ℕ → ℕ → Kept Arrival
+countHearing r k width count = applied r (judging r k width count)
+
+-- the same for whoever has the slot: 10, 8, 14, 17, and the slot after it
 unfoldable pub slotJudging : Slot → Channel → ℕ → ℕ → Outcome (Arrival × Slot)
 slotJudging x k width count =
     firstOf
-    ((ltb 7 width, refused 10 []) ∷ slotChecks (x .state) width count)
+    (countChecks width count ++ slotChecks (x .state) width count)
     (done (arrivalAt (x .state) count, slotOf (Heard k width (totalsAt (x .state) count))))
-
--- a judgement taken over: done, the record has the change; refused, it stays
-abbrev pub taken : {A : Type 0} → ChannelRecord → Outcome (A × Change) → Kept A
-taken r (done x) = keeping (done (x .0)) (changed r (x .1))
-taken r (refused k vs) = keeping (refused k vs) r

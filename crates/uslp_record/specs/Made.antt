@@ -23,7 +23,7 @@ pub record Openable (k : Channel) (width : ℕ) : Type 0 where
   pub narrow : width ≤ 7
 
 -- totals that hearings make: last fits its width, a frame was handed on, and none is above the largest
-pub record Tallied (width : ℕ) (t : Totals) : Type 0 where
+pub record SoundTotals (width : ℕ) (t : Totals) : Type 0 where
   pub last : t .last < 256 ^ width
   pub begun : 1 ≤ t .«handed_on»
   pub «handed_on» : t .«handed_on» ≤ most
@@ -34,7 +34,7 @@ pub record Tallied (width : ℕ) (t : Totals) : Type 0 where
 abbrev pub Sound : SlotState → Type 0
 Sound Closed = Unit {0}
 Sound (Opened k width) = Openable k width
-Sound (Heard k width t) = Openable k width × Tallied width t
+Sound (Heard k width t) = Openable k width × SoundTotals width t
 
 -- eight slots, no channel twice, and what stands in each is sound
 pub record Made (r : ChannelRecord) : Type 0 where

@@ -5,7 +5,7 @@ use mathlib.Core.List.{List, [], _∷_}
 use lib.Dec.{eqb, leb, ltb}
 use Rattle.uslp_kinds.specs.Outcome.{Outcome, done, refused, firstOf}
 use Rattle.uslp_kinds.specs.Answers.{refusal}
-use Rattle.uslp_record.specs.Slots.{find, vacant, stateAt, put}
+use Rattle.uslp_record.specs.Slots.{find, vacant, stateAt, Change, changed}
 use Rattle.uslp_record.specs.declared.Channel.{Channel}
 use Rattle.uslp_record.specs.declared.SlotState.{SlotState}
 use Rattle.uslp_record.specs.declared.SlotState.the-variants.{Closed, Opened, Heard}
@@ -20,10 +20,10 @@ use Rattle.uslp_record.specs.declared.TotalAnswer.the-variants as total-
 pub data Kept (A : Type 0) : Type 0 where
   keeping : Outcome A → ChannelRecord → Kept A
 
--- done, it leaves the record `new`; refused, the one that it found
-abbrev pub kept : {A : Type 0} → Outcome A → ChannelRecord → ChannelRecord → Kept A
-kept (done x) new found = keeping (done x) new
-kept (refused k vs) new found = keeping (refused k vs) found
+-- a call that changes a slot: done, the record has the change; refused, it stays
+abbrev pub applied : {A : Type 0} → ChannelRecord → Outcome (A × Change) → Kept A
+applied r (done x) = keeping (done (x .0)) (changed r (x .1))
+applied r (refused k vs) = keeping (refused k vs) r
 
 abbrev pub paperTotal : TotalAnswer → Outcome ℕ
 paperTotal (total-answer.Done n) = done n
@@ -36,19 +36,19 @@ paperState (state-answer.Refused r) = refusal r
 -- opening: 10, 15, 16; the first closed slot is taken
 unfoldable pub opening : ChannelRecord → Channel → ℕ → Kept (Unit {0})
 opening r k width =
-    kept
+    applied r
     (firstOf
     ((ltb 63 (k .«vc_id») || eqb width 0 || ltb 7 width, refused 10 [])
     ∷ (ltb (find k (r .slots)) 8, refused 15 [])
     ∷ (leb 8 (vacant (r .slots)), refused 16 [])
     ∷ [])
-    (done tt))
-    (put r (vacant (r .slots)) (Opened k width))
-    r
+    (done (tt, record { at = vacant (r .slots); state = Opened k width })))
 
 -- closing: 13
 unfoldable pub closing : ChannelRecord → Channel → Kept (Unit {0})
-closing r k = kept (firstOf ((leb 8 (find k (r .slots)), refused 13 []) ∷ []) (done tt)) (put r (find k (r .slots)) Closed) r
+closing r k =
+    applied r
+    (firstOf ((leb 8 (find k (r .slots)), refused 13 []) ∷ []) (done (tt, record { at = find k (r .slots); state = Closed })))
 
 -- asking for a channel: 13
 unfoldable pub showing : ChannelRecord → Channel → Outcome SlotState

@@ -10,7 +10,6 @@ use Rattle.uslp_record.specs.declared.SlotState.{SlotState}
 use Rattle.uslp_record.specs.declared.SlotState.the-variants.{Closed, Opened, Heard}
 use Rattle.uslp_record.specs.declared.Slot.{Slot}
 use Rattle.uslp_record.specs.declared.ChannelRecord.{ChannelRecord}
-use Rattle.uslp_record.specs.declared.Change.{Change}
 
 -- a channel is a spacecraft id with a channel number and the bypass flag
 abbrev pub sameChannel : Channel → Channel → Bool
@@ -55,7 +54,11 @@ stateAt r i = getD (r .slots) i (slotOf Closed) .state
 abbrev pub put : ChannelRecord → ℕ → SlotState → ChannelRecord
 put r i t = record { slots = set (r .slots) i (slotOf t) }
 
--- and with a change taken over
+-- a slot, and the state that it is to get
+pub record Change : Type 0 where
+  pub at : ℕ
+  pub state : SlotState
+
 abbrev pub changed : ChannelRecord → Change → ChannelRecord
 changed r c = put r (c .at) (c .state)
 

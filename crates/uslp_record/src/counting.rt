@@ -1,9 +1,9 @@
 // Hearing a frame of a channel, as numbers.
 use crate::Arrival;
-use crate::Change;
+use crate::ArrivalAnswer;
 use crate::Channel;
 use crate::ChannelRecord;
-use crate::CountAnswer;
+use crate::CountHearing;
 use crate::MOST;
 use crate::SLOTS;
 use crate::Slot;
@@ -16,44 +16,60 @@ use uslp_kinds::Refusal;
 ghost use mathlib.Core.Path.{_≡_};
 ghost use Prim.Native.Nat.{_+_, _≤_, _<_, _^_};
 ghost use mathlib.Core.Bool.{false};
-ghost use Rattle.uslp_record.specs.Judging.{paperCount, paperSlot, ahead, arrivalOf, totalsAfter, firstTotals, overfull, arrivalAt, totalsAt, widthAt, judging, slotJudging};
+ghost use Rattle.uslp_record.specs.Record.{keeping};
+ghost use Rattle.uslp_record.specs.Judging.{paperArrival, paperSlot, ahead, arrivalOf, totalsAfter, firstTotals, overfull, arrivalAt, totalsAt, widthAt, countHearing, slotJudging};
 
 impl ChannelRecord {
-    // What a frame of this channel, width and count is, and what it changes; the record is only read.
-    // Refuses BAD_FIELD for a width that no frame has, NOT_OPEN, OTHER_WIDTH, TOTAL_FULL.
-    pub fn judge_count(self, channel: Channel, width: u8, count: u64) -> CountAnswer
-        ensures { λ r. ⌜ paperCount r ≡ judging self channel width count ⌝ }
+    // Hears a frame of this channel, width and count. Refuses BAD_FIELD for a width that no frame has, BAD_COUNT for a count
+    // that does not fit it, NOT_OPEN, OTHER_WIDTH, TOTAL_FULL.
+    pub fn hear_count(self, channel: Channel, width: u8, count: u64) -> CountHearing
+        ensures { λ r. ⌜ keeping (paperArrival (r .answer)) (r .next) ≡ countHearing self channel width count ⌝ }
     {
         if width > MAX_COUNT_LEN {
-            return CountAnswer::Refused(Refusal::BadField);
+            return unheard(self, Refusal::BadField);
+        }
+        if count >= counts(width) {
+            return unheard(self, Refusal::BadCount { count, width });
         }
         let at = search(self, channel);
         if at >= SLOTS {
-            return CountAnswer::Refused(Refusal::NotOpen);
+            return unheard(self, Refusal::NotOpen);
         }
-        let slots = self.slots;
-        let found = slots[at];
+        let mut next = self;
+        let found = next.slots[at];
         match found.judge_count(channel, width, count) {
             SlotAnswer::Done { arrival, slot } => {
-                let state = slot.state;
-                CountAnswer::Done {
-                    arrival,
-                    change: Change { at, state },
+                next.slots[at] = slot;
+                CountHearing {
+                    answer: ArrivalAnswer::Done(arrival),
+                    next,
                 }
             }
-            SlotAnswer::Refused(refusal) => CountAnswer::Refused(refusal),
+            SlotAnswer::Refused(refusal) => unheard(self, refusal),
         }
+    }
+}
+
+fn unheard(channels: ChannelRecord, refusal: Refusal) -> CountHearing
+    ensures { λ r. ⌜ r ≡ record { answer = ArrivalAnswer.Refused refusal; next = channels } ⌝ }
+{
+    CountHearing {
+        answer: ArrivalAnswer::Refused(refusal),
+        next: channels,
     }
 }
 
 impl Slot {
     // The same for whoever holds the slot that the search found: a caller who replaces it copies no record.
-    // Refuses BAD_FIELD, OTHER_WIDTH, TOTAL_FULL.
+    // Refuses BAD_FIELD, BAD_COUNT, OTHER_WIDTH, TOTAL_FULL.
     pub fn judge_count(self, channel: Channel, width: u8, count: u64) -> SlotAnswer
         ensures { λ r. ⌜ paperSlot r ≡ slotJudging self channel width count ⌝ }
     {
         if width > MAX_COUNT_LEN {
             return SlotAnswer::Refused(Refusal::BadField);
+        }
+        if count >= counts(width) {
+            return SlotAnswer::Refused(Refusal::BadCount { count, width });
         }
         let state = self.state;
         let opened = width_of(state);

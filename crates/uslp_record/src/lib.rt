@@ -5,8 +5,9 @@ use uslp_kinds::MAX_COUNT_LEN;
 use uslp_kinds::MAX_VC_ID;
 use uslp_kinds::Refusal;
 ghost use mathlib.Core.Path.{_≡_};
+ghost use Prim.Native.Nat.{_<_};
 ghost use Rattle.uslp_kinds.specs.Answers.{paperDone};
-ghost use Rattle.uslp_record.specs.Slots.{sameChannel, stateHolds, stateClosed, find, vacant, changed, emptyRecord};
+ghost use Rattle.uslp_record.specs.Slots.{sameChannel, stateHolds, stateClosed, find, vacant, put, emptyRecord};
 ghost use Rattle.uslp_record.specs.Record.{keeping, paperTotal, missingOf, opening, closing, consoleTotal, paperState, showing};
 
 mod counting;
@@ -78,16 +79,15 @@ pub enum Arrival {
     Late,
 }
 
-// A slot and the state that it is to get. `ChannelRecord::with_change` alone takes one over.
-pub struct Change {
-    at: usize,
-    state: SlotState,
+pub enum ArrivalAnswer {
+    Done(Arrival),
+    Refused(Refusal),
 }
 
-// What a frame's count is to the record, and what it changes.
-pub enum CountAnswer {
-    Done { arrival: Arrival, change: Change },
-    Refused(Refusal),
+// What hearing a frame's count finds, and the record after it.
+pub struct CountHearing {
+    pub answer: ArrivalAnswer,
+    pub next: ChannelRecord,
 }
 
 // What a frame's count is to the slot that holds its channel, and the slot after it.
@@ -132,7 +132,7 @@ impl ChannelRecord {
         let state = SlotState::Opened { channel, width };
         Recorded {
             answer: DoneAnswer::Done,
-            next: self.with_change(Change { at, state }),
+            next: changed(self, at, state),
         }
     }
 
@@ -147,7 +147,7 @@ impl ChannelRecord {
         let state = SlotState::Closed;
         Recorded {
             answer: DoneAnswer::Done,
-            next: self.with_change(Change { at, state }),
+            next: changed(self, at, state),
         }
     }
 
@@ -163,19 +163,6 @@ impl ChannelRecord {
         let slot = slots[at];
         let state = slot.state;
         StateAnswer::Done(state)
-    }
-
-    // The record with a change taken over: the one way in which a slot changes.
-    pub fn with_change(self, change: Change) -> ChannelRecord
-        ensures { λ r. ⌜ r ≡ changed self change ⌝ }
-    {
-        let at = change.at;
-        let state = change.state;
-        let mut next = self;
-        if at < SLOTS {
-            next.slots[at] = Slot { state };
-        }
-        next
     }
 
     // The sum of missing over open channels. Refuses TOTAL_FULL.
@@ -251,6 +238,16 @@ fn first_closed(channels: ChannelRecord) -> usize
         i += 1;
     };
     at
+}
+
+// The record with another state in a slot.
+fn changed(channels: ChannelRecord, at: usize, state: SlotState) -> ChannelRecord
+    requires { ⌜ at < 8 ⌝ }
+    ensures { λ r. ⌜ r ≡ put channels at state ⌝ }
+{
+    let mut next = channels;
+    next.slots[at] = Slot { state };
+    next
 }
 
 fn state_holds(state: SlotState, channel: Channel) -> bool

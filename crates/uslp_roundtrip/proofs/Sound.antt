@@ -13,6 +13,7 @@ use Rattle.uslp_octets.proofs.Laws.{octets-word, word-lt, are-take, are-drop}
 use Rattle.uslp_checksum.specs.Checksum.{checksumOf}
 use Rattle.uslp_checksum.proofs.Laws.{residue}
 use Rattle.uslp_kinds.specs.Outcome.{done}
+use Rattle.uslp_kinds.specs.declared.ManagedParameters.{ManagedParameters}
 use Rattle.uslp_kinds.specs.declared.OperationalControlField.the-variants.{Present}
 use Rattle.uslp_primary_header.specs.Header.{lenHeader, lenFrame, spareIn}
 use Rattle.uslp_primary_header.specs.declared.PrimaryHeader.{PrimaryHeader}
@@ -20,7 +21,7 @@ use Rattle.uslp_primary_header.proofs.RoundTrip as header-trip
 use Rattle.uslp_data_field_header.specs.Field.{lenField}
 use Rattle.uslp_data_field_header.specs.declared.TransferFrameDataFieldHeader.{TransferFrameDataFieldHeader}
 use Rattle.uslp_data_field_header.proofs.RoundTrip as field-trip
-use Rattle.uslp_layout.specs.Layout.{dataStart, needed, present, ocfOctets, body, withFecf, layout, WellFormed}
+use Rattle.uslp_layout.specs.Layout.{Fields, dataStart, needed, present, ocfOctets, body, withFecf, layout, WellFormed}
 use Rattle.uslp_reader.specs.Reader.{ocfAt, frameReading, contentsIn}
 use Rattle.uslp_reader.specs.declared.TransferFrame.{TransferFrame}
 use Rattle.uslp_reader.proofs.Done.{ReadDone, read-done}
@@ -49,18 +50,22 @@ fecf-part true n s oct h c =
     subst (λ (k : ℕ). checksumOf (take k s) ≡ word k 2 s) less (residue (n + 2) s oct (omega arith) h .0 (c refl)) in
     ap (λ (v : ℕ). take n s ++ octets 2 v) sum ∙ ap (λ (l : List ℕ). take n s ++ l) (octets-word s n oct 2 h) ∙ sym (take-add n 2 s)
 
-module _ (s : List ℕ) (fecf : Bool) (x : TransferFrame) (oct : AreOctets s) (e : frameReading s fecf ≡ done x) where
+module _ (s : List ℕ) (managed : ManagedParameters) (x : TransferFrame) (oct : AreOctets s) (e : frameReading s managed ≡ done x) where
   abbrev h : PrimaryHeader
   h = x .«primary_header»
 
   abbrev f : TransferFrameDataFieldHeader
   f = x .«data_field_header»
 
-  r : ReadDone s fecf x
-  r = read-done s fecf x e
+  -- the fields as they stand in the octets
+  abbrev pub fields : Fields
+  fields = record { header = h; field = f; contents = contentsIn x s; ocf = x .«operational_control_field» }
+
+  r : ReadDone s managed x
+  r = read-done s managed x e
 
   abbrev n : ℕ
-  n = lenFrame h - needed h f fecf
+  n = lenFrame h - needed h f managed
 
   starts : x .«data_start» ≡ dataStart h f
   starts = ap (λ (y : TransferFrame). y .«data_start») (r .frame)
@@ -79,12 +84,12 @@ module _ (s : List ℕ) (fecf : Bool) (x : TransferFrame) (oct : AreOctets s) (e
   long : length (contentsIn x s) ≡ n
   long = ap length contents ∙ length-take-le n (drop (dataStart h f) s) (omega (arith, length-drop (dataStart h f) s, r .room, r .whole))
 
-  total : lenFrame h ≡ dataStart h f + n + cond (h .«ocf_flag») 4 0 + cond fecf 2 0
+  total : lenFrame h ≡ dataStart h f + n + cond (h .«ocf_flag») 4 0 + cond (managed .«has_fecf») 2 0
   total = omega (arith, r .room)
 
   -- the octets before the FECF
   front : take (dataStart h f + n + cond (h .«ocf_flag») 4 0) s
-      ≡ body (spareIn s) h f (contentsIn x s) (x .«operational_control_field»)
+      ≡ body (spareIn s) fields
   front =
       take-add (dataStart h f + n) (cond (h .«ocf_flag») 4 0) s
       ∙ ap₂ (λ (a b : List ℕ). a ++ b)
@@ -98,7 +103,7 @@ module _ (s : List ℕ) (fecf : Bool) (x : TransferFrame) (oct : AreOctets s) (e
       (sym (ap ocfOctets ocf-is ∙ ocf-part (h .«ocf_flag») (dataStart h f + n) s oct (omega (arith, total, r .whole))))
       ∙ simp append-assoc
 
-  pub stands : WellFormed fecf h f (contentsIn x s) (x .«operational_control_field»)
+  pub stands : WellFormed managed fields
   stands = record {
     header-fits = header-trip.read-fitting s h oct (r .header);
     field-fits = field-trip.read-fitting (drop (lenHeader h) s) f (are-drop (lenHeader h) s oct) (r .field);
@@ -108,18 +113,18 @@ module _ (s : List ℕ) (fecf : Bool) (x : TransferFrame) (oct : AreOctets s) (e
     is-total = omega (arith, long, r .room);
   }
 
-  pub begins : take (lenFrame h) s ≡ layout fecf (spareIn s) h f (contentsIn x s) (x .«operational_control_field»)
+  pub begins : take (lenFrame h) s ≡ layout managed (spareIn s) fields
   begins =
       ap (λ (k : ℕ). take k s) total
       ∙ sym
-      (fecf-part fecf (dataStart h f + n + cond (h .«ocf_flag») 4 0) s oct (omega (arith, total, r .whole))
+      (fecf-part (managed .«has_fecf») (dataStart h f + n + cond (h .«ocf_flag») 4 0) s oct (omega (arith, total, r .whole))
       (λ q. ap (λ (k : ℕ). checksumOf (take k s)) (sym total) ∙ r .check q))
-      ∙ ap (withFecf fecf) front
+      ∙ ap (withFecf (managed .«has_fecf»)) front
 
-  pub laid : Laid s fecf h f (contentsIn x s) (x .«operational_control_field»)
+  pub laid : Laid s managed fields
   laid = record { spare = spareIn s; spare-fits = mod-lt _ (lit< tt); well-formed = stands; begins = begins }
 
-  pub is-frame : x ≡ frameOf h f (contentsIn x s) (x .«operational_control_field»)
+  pub is-frame : x ≡ frameOf fields
   is-frame =
       λ i. record {
         «primary_header» = h;

@@ -8,12 +8,13 @@ use lib.Dec.{lit<}
 use lib.ListN.{length, take, drop}
 use Rattle.uslp_octets.specs.Octets.{AreOctets}
 use Rattle.uslp_kinds.specs.Outcome.{done, leaving}
+use Rattle.uslp_kinds.specs.declared.ManagedParameters.{ManagedParameters}
 use Rattle.uslp_kinds.specs.declared.OperationalControlField.{OperationalControlField}
 use Rattle.uslp_kinds.specs.declared.OperationalControlField.the-variants.{Absent, Present}
 use Rattle.uslp_primary_header.specs.Header.{lenFrame, spareIn}
 use Rattle.uslp_primary_header.specs.declared.PrimaryHeader.{PrimaryHeader}
 use Rattle.uslp_layout.specs.Layout.{needed, present, layout, WellFormed}
-use Rattle.uslp_writer.specs.Frame.{flagged, total, completed, frameOctets, frameWriting}
+use Rattle.uslp_writer.specs.Frame.{flagged, managedOf, total, completed, fieldsOf, frameOctets, frameWriting}
 use Rattle.uslp_writer.specs.declared.TransferFrameCreator.{TransferFrameCreator}
 use Rattle.uslp_writer.proofs.Headers.{completed-passes}
 use Rattle.uslp_writer.proofs.Paths.{Through, writing-through, writing-done}
@@ -22,7 +23,7 @@ use Rattle.uslp_reader.specs.declared.TransferFrame.{TransferFrame}
 use Rattle.uslp_roundtrip.specs.Bounds.{Bounds}
 use Rattle.uslp_roundtrip.specs.Laid.{frameOf}
 use Rattle.uslp_roundtrip.proofs.Complete.{complete, complete-contents}
-use Rattle.uslp_roundtrip.proofs.Sound.{stands, begins}
+use Rattle.uslp_roundtrip.proofs.Sound.{fields, stands, begins}
 
 -- where no OCF is missing, the flag written says whether there is one
 flag-given : (b : Bool) (x : OperationalControlField) → b && not (present x) ≡ false → present x || b ≡ present x
@@ -41,7 +42,7 @@ module _ (c : TransferFrameCreator) (d s s′ : List ℕ) (n : ℕ) (b : Bounds 
   w = writing-through c d s s′ n e
 
   -- the fields that were written make a frame
-  pub written-fields : WellFormed (c .«has_fecf») (completed c (total c (length d))) (c .«data_field_header») d (c .«operational_control_field»)
+  pub written-fields : WellFormed (managedOf c) (fieldsOf c d)
   written-fields = record {
     header-fits = record {
       spacecraft-fits = b .spacecraft-fits;
@@ -55,43 +56,40 @@ module _ (c : TransferFrameCreator) (d s s′ : List ℕ) (n : ℕ) (b : Bounds 
     is-total = omega arith;
   }
 
-  pub written-read : frameReading s′ (c .«has_fecf») ≡ done (frameOf (completed c n) (c .«data_field_header») d (c .«operational_control_field»))
+  pub written-read : frameReading s′ (managedOf c) ≡ done (frameOf (fieldsOf c d))
   written-read =
-      ap (λ (t : List ℕ). frameReading t (c .«has_fecf»)) (w .left)
-      ∙ complete (c .«has_fecf») 0 (completed c (total c (length d))) (c .«data_field_header») d (c .«operational_control_field»)
-      (drop (total c (length d)) s) (lit< tt) written-fields
-      ∙ ap (λ (k : ℕ). done (frameOf (completed c k) (c .«data_field_header») d (c .«operational_control_field»))) (sym (w .is-total))
+      ap (λ (t : List ℕ). frameReading t (managedOf c)) (w .left)
+      ∙ complete (managedOf c) 0 (fieldsOf c d) (drop (total c (length d)) s) (lit< tt) written-fields
 
-  pub written-contents : contentsIn (frameOf (completed c n) (c .«data_field_header») d (c .«operational_control_field»)) s′ ≡ d
+  pub written-contents : contentsIn (frameOf (fieldsOf c d)) s′ ≡ d
   written-contents =
-      ap (contentsIn (frameOf (completed c n) (c .«data_field_header») d (c .«operational_control_field»))) (w .left)
-      ∙ complete-contents (c .«has_fecf») 0 (completed c (total c (length d))) (c .«data_field_header») d (c .«operational_control_field»)
-      (drop (total c (length d)) s) (lit< tt) written-fields
+      ap (contentsIn (frameOf (fieldsOf c d))) (w .left)
+      ∙ complete-contents (managedOf c) 0 (fieldsOf c d) (drop (total c (length d)) s) (lit< tt) written-fields
 
 -- what a frame that was read is written from
-abbrev pub creatorOf : TransferFrame → Bool → TransferFrameCreator
-creatorOf x fecf =
+abbrev pub creatorOf : TransferFrame → ManagedParameters → TransferFrameCreator
+creatorOf x managed =
     record {
       «primary_header» = x .«primary_header»;
       «data_field_header» = x .«data_field_header»;
       «operational_control_field» = x .«operational_control_field»;
-      «has_fecf» = fecf;
+      «has_fecf» = managed .«has_fecf»;
     }
 
-module _ (s t : List ℕ) (fecf : Bool) (x : TransferFrame) (oct : AreOctets s) (e : frameReading s fecf ≡ done x) (spare : spareIn s ≡ 0)
+module _ (s t : List ℕ) (managed : ManagedParameters) (x : TransferFrame) (oct : AreOctets s) (e : frameReading s managed ≡ done x) (spare : spareIn s ≡ 0)
     (room : lenFrame (x .«primary_header») ≤ length t) where
   abbrev c : TransferFrameCreator
-  c = creatorOf x fecf
+  c = creatorOf x managed
 
   abbrev d : List ℕ
   d = contentsIn x s
 
-  fields : WellFormed fecf (x .«primary_header») (x .«data_field_header») (contentsIn x s) (x .«operational_control_field»)
-  fields = stands s fecf x oct e
+  well-formed : WellFormed managed (fields s managed x oct e)
+  well-formed = stands s managed x oct e
 
   flag : (x .«primary_header» .«ocf_flag» && not (present (x .«operational_control_field»)) ≡ false)
       × (present (x .«operational_control_field») || x .«primary_header» .«ocf_flag» ≡ x .«primary_header» .«ocf_flag»)
-  flag = flag-there (x .«primary_header» .«ocf_flag») (x .«operational_control_field») (fields .ocf-flagged)
+  flag = flag-there (x .«primary_header» .«ocf_flag») (x .«operational_control_field») (well-formed .ocf-flagged)
 
   same-flag : flagged c ≡ x .«primary_header»
   same-flag =
@@ -110,7 +108,7 @@ module _ (s t : List ℕ) (fecf : Bool) (x : TransferFrame) (oct : AreOctets s) 
 
   same-total : total c (length d) ≡ lenFrame (x .«primary_header»)
   same-total =
-      ap (λ (h : PrimaryHeader). needed h (x .«data_field_header») fecf + length (contentsIn x s)) same-flag ∙ sym (fields .is-total)
+      ap (λ (h : PrimaryHeader). needed h (x .«data_field_header») managed + length (contentsIn x s)) same-flag ∙ sym (well-formed .is-total)
 
   same-header : completed c (total c (length d)) ≡ x .«primary_header»
   same-header =
@@ -130,19 +128,20 @@ module _ (s t : List ℕ) (fecf : Bool) (x : TransferFrame) (oct : AreOctets s) 
 
   same-octets : frameOctets c d ≡ take (lenFrame (x .«primary_header»)) s
   same-octets =
-      ap (λ (h : PrimaryHeader). layout fecf 0 h (x .«data_field_header») (contentsIn x s) (x .«operational_control_field»)) same-header
-      ∙ ap (λ (k : ℕ). layout fecf k (x .«primary_header») (x .«data_field_header») (contentsIn x s) (x .«operational_control_field»)) (sym spare)
-      ∙ sym (begins s fecf x oct e)
+      ap (λ (h : PrimaryHeader). layout managed 0 (record { header = h; field = x .«data_field_header»; contents = d; ocf = x .«operational_control_field» }))
+      same-header
+      ∙ ap (λ (k : ℕ). layout managed k (fields s managed x oct e)) (sym spare)
+      ∙ sym (begins s managed x oct e)
 
   pub read-written : frameWriting c d t
       ≡ leaving (done (lenFrame (x .«primary_header»))) (take (lenFrame (x .«primary_header»)) s ++ drop (lenFrame (x .«primary_header»)) t)
   read-written =
       writing-done c d t
       (record {
-        header-passes = fields .header-fits .checks-pass;
-        field-passes = fields .field-fits .checks-pass;
+        header-passes = well-formed .header-fits .checks-pass;
+        field-passes = well-formed .field-fits .checks-pass;
         ocf-given = flag .0;
-        fits = omega (arith, same-total, fields .header-fits .length-fits);
+        fits = omega (arith, same-total, well-formed .header-fits .length-fits);
       })
       (omega (arith, same-total))
       ∙ ap (λ (l : List ℕ). leaving (done (total c (length d))) (l ++ drop (total c (length d)) t)) same-octets

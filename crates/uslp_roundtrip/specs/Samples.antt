@@ -69,8 +69,8 @@ frameF = record { «primary_header» = some; «data_field_header» = whole; «op
 abbrev pub plain : TransferFrameCreator
 plain = record { «primary_header» = made; «data_field_header» = whole; «operational_control_field» = Absent; «has_fecf» = false }
 
-abbrev pub unflagged : TransferFrameCreator
-unflagged = record { «primary_header» = flagged; «data_field_header» = whole; «operational_control_field» = Absent; «has_fecf» = false }
+abbrev pub flaggedOnly : TransferFrameCreator
+flaggedOnly = record { «primary_header» = flagged; «data_field_header» = whole; «operational_control_field» = Absent; «has_fecf» = false }
 
 -- eleven octets to write over
 abbrev pub zeros : List ℕ

@@ -10,7 +10,7 @@ use lib.ListN.{length, take, drop, getD, length-drop, length-append, take-append
 use native.Mathlib.Nat.{add-zero}
 use native.Mathlib.Numerals.{add-one}
 use lib.Seq.{drop-at, drop-drop, take-add, getD-drop, take-all, drop-cons}
-use Rattle.uslp_octets.specs.Octets.{AreOctets, Field, Fits, bitsIn, octets, pack, unpack, named, word}
+use Rattle.uslp_octets.specs.Octets.{AreOctets, BitField, Fits, bitsIn, octets, pack, unpack, named, word}
 use Rattle.uslp_octets.proofs.Laws.{unpack-pack, pack-unpack, split-fits, are-drop, word-octets}
 use Rattle.uslp_kinds.specs.Kinds.{bypassNumber, bypassOf}
 use Rattle.uslp_kinds.proofs.Cases.{bypass-lt}
@@ -21,8 +21,8 @@ use Rattle.uslp_form.specs.Entries.{Each, isOpened, isHeard}
 use Rattle.uslp_form.specs.declared.Form.{Form}
 use Rattle.uslp_form.specs.declared.Form.the-variants.{One, Two}
 use Rattle.uslp_form.specs.Form.{columns, totalsRow, row, rows, section, form, GoodForm}
-use Rattle.uslp_form.specs.Said.{flagLong, unheardLong, heardLong, openedBy, heardBy}
-use Rattle.uslp_saved.specs.Reading.{noChannel, noTotals, totalsAt, unheardIn, heardIn, entriesIn, firstCount, second, secondCount, formLong, placeOf, unheardOfOctets, heardOfOctets, entriesOfOctets, FlagFits, Flagged}
+use Rattle.uslp_form.specs.FromRow.{flagLong, unheardLong, heardLong, openedBy, heardBy}
+use Rattle.uslp_saved.specs.Reading.{noChannel, noTotals, totalsFrom, unheardIn, heardIn, entriesIn, firstCount, second, secondCount, formLong, placeOf, unheardOfOctets, heardOfOctets, entriesOfOctets, FlagFits, Flagged}
 use Rattle.uslp_record.proofs.Slots.{true-false}
 use Rattle.uslp_form.proofs.Rows.{Entry, opened-back, heard-back, opened-bits, heard-bits, opened-size, heard-size, opened-alike, heard-alike, good-unheard, good-heard}
 use Rattle.uslp_saved.proofs.Puts.{channel-before}
@@ -37,7 +37,7 @@ pub record Reader (f : Form) (test : SlotState → Bool) (read : List ℕ → Sl
   pub entry : (s : List ℕ) → Entry f test (read s)
 
 -- the flag of a channel, in the columns before a row of m octets
-flag-said : (f : Form) (k : Channel) (w m : ℕ) (fs : List Field) → bitsIn fs ≡ 8 * m → Fits (columns f k ++ ("width", 8, w) ∷ fs) → (t : List ℕ)
+flag-said : (f : Form) (k : Channel) (w m : ℕ) (fs : List BitField) → bitsIn fs ≡ 8 * m → Fits (columns f k ++ ("width", 8, w) ∷ fs) → (t : List ℕ)
     → FlagFits f (pack (columns f k ++ ("width", 8, w) ∷ fs) ++ t)
 flag-said One k w m fs whole h t = omega arith
 flag-said Two k w m fs whole h t =
@@ -71,7 +71,7 @@ unheard-whole f s oct flag h =
     ap pack (ap (row f) (opened-in s oct 0 f) ∙ columns-again s oct 0 f [] flag ∙ sym (channel-fields s oct 0 f 0 [] refl))
     ∙ pack-unpack (row f (Opened noChannel 0)) (unheardLong f) (opened-bits f noChannel 0) s oct h
 
--- the columns of a row that was read fit, and the form does not lack the flag that they say
+-- the columns of a row that was read fit, and the form says the channel
 unheard-entry : (f : Form) (s : List ℕ) → Entry f isOpened (unheardIn f s)
 unheard-entry One s = (refl, (split-fits (row One (Opened noChannel 0)) (word 0 4 s), refl))
 unheard-entry Two s =
@@ -104,7 +104,7 @@ heard-flag f (Heard k w p) e t = flag-said f k w 40 (totalsRow p) refl (e .1 .0)
 heard-whole : (f : Form) (s : List ℕ) → AreOctets s → FlagFits f s → heardLong f ≤ length s → pack (row f (heardIn f s)) ≡ take (heardLong f) s
 heard-whole f s oct flag h =
     ap pack
-    (ap (row f) (heard-in s oct 0 f) ∙ columns-again s oct 0 f (totalsRow (totalsAt (0 + (4 + flagLong f)) s)) flag
+    (ap (row f) (heard-in s oct 0 f) ∙ columns-again s oct 0 f (totalsRow (totalsFrom (0 + (4 + flagLong f)) s)) flag
     ∙ sym (heard-fields s oct 0 f))
     ∙ pack-unpack (row f (Heard noChannel 0 noTotals)) (heardLong f) (heard-bits f noChannel 0 noTotals) s oct h
 

@@ -16,7 +16,7 @@ use Rattle.uslp_record.specs.declared.Slot.{Slot}
 use Rattle.uslp_record.specs.declared.ChannelRecord.{ChannelRecord}
 use Rattle.uslp_form.specs.declared.Form.{Form}
 use Rattle.uslp_form.specs.Form.{restored}
-use Rattle.uslp_form.specs.Said.{flagLong, unheardLong, heardLong}
+use Rattle.uslp_form.specs.FromRow.{flagLong, unheardLong, heardLong}
 use Rattle.uslp_saved.specs.Reading.{unheardIn, heardIn, entriesIn, firstCount, second, secondCount, placeOf, unheardOfOctets, heardOfOctets, entriesOfOctets, Shaped, FlagFits}
 use Rattle.uslp_saved.proofs.Entries.{place-low, place-high, place-first, place-second, unheard-long}
 

@@ -1,4 +1,5 @@
 pub mod ByForm
+pub mod Known
 pub mod Fields
 pub mod Flags
 pub mod Entries

@@ -1,13 +1,13 @@
 -- Octets put behind those that stand.
 use mathlib.Core.Path.{_≡_, refl, sym, _∙_, ap, ap₂, subst}
-use mathlib.Core.List.{List, [], _∷_, _++_, map, append-assoc, append-nil}
+use mathlib.Core.List.{List, [], _∷_, _++_, append-assoc, append-nil}
 use Prim.Native.Nat.{ℕ, _+_, _*_, _-_, _<_, _≤_}
 use native.Mathlib.Omega.{arith}
 use native.Mathlib.Nat.{add-zero}
-use lib.ListN.{length, take, drop, length-map, length-append}
+use lib.ListN.{length, take, drop, length-append}
 use lib.Seq.{take-at, length-take-le}
 use borrow.Rule.Slice.PartMut.{putMid, midOf, mid-len}
-use Rattle.uslp_octets.specs.Octets.{Field, Fits, bitsIn, octets, pack}
+use Rattle.uslp_octets.specs.Octets.{BitField, Fits, bitsIn, octets, pack}
 use Rattle.uslp_octets.proofs.Laws.{length-octets, pack-cons}
 use Rattle.uslp_kinds.specs.Kinds.{bypassNumber}
 use Rattle.uslp_kinds.proofs.Cases.{bypass-lt}
@@ -16,15 +16,12 @@ use Rattle.uslp_record.specs.declared.Totals.{Totals}
 use Rattle.uslp_record.specs.declared.SlotState.{SlotState}
 use Rattle.uslp_record.specs.declared.SlotState.the-variants.{Closed, Opened, Heard}
 use Rattle.uslp_saved.specs.declared.saving.Out.{Out}
-use Rattle.uslp_saved.specs.Choice.{written, Narrow, Wide, Puts}
+use Rattle.uslp_saved.specs.Choice.{soFar, Narrow, Wide, Puts}
 use Rattle.uslp_form.specs.declared.Form.{Form}
 use Rattle.uslp_form.specs.declared.Form.the-variants.{One, Two}
 use Rattle.uslp_form.specs.Form.{flagColumn, columns, row, totalsRow}
-use Rattle.uslp_form.specs.Said.{flagLong, unheardLong, heardLong}
+use Rattle.uslp_form.specs.FromRow.{flagLong, unheardLong, heardLong}
 use Rattle.uslp_form.proofs.Rows.{opened-size, heard-size}
-
-pub long-octets : (l : List ℕ) → length (map (λ (v : ℕ). v) l) ≡ 362 → length l ≡ 362
-long-octets l e = sym (length-map l (λ (v : ℕ). v)) ∙ e
 
 module _ (s ys : List ℕ) (at width n : ℕ) (fits : at + width ≤ length s) (is : ys ≡ octets (length (midOf at (at + width - at) s)) n) where
   pub put-behind : take (at + width) (putMid at (at + width - at) s ys) ≡ take at s ++ octets width n
@@ -37,7 +34,7 @@ module _ (s ys : List ℕ) (at width n : ℕ) (fits : at + width ≤ length s) (
       (length-append (take at s) (octets width n) ∙ ap₂ (λ (a b : ℕ). a + b) (length-take-le at s (omega arith)) (length-octets width n))
 
 -- the flag's column before a row of n octets
-module _ (k : Channel) (n : ℕ) (fs : List Field) (whole : bitsIn fs ≡ 8 * n) where
+module _ (k : Channel) (n : ℕ) (fs : List BitField) (whole : bitsIn fs ≡ 8 * n) where
   pub flag-bits : (f : Form) → bitsIn (flagColumn f k ++ fs) ≡ 8 * (flagLong f + n)
   flag-bits One = omega arith
   flag-bits Two = omega arith
@@ -51,11 +48,11 @@ module _ (k : Channel) (n : ℕ) (fs : List Field) (whole : bitsIn fs ≡ 8 * n)
   flag-before Two h = pack-cons "bypass" 1 (bypassNumber (k .«sequence_control_flag»)) n fs whole h
 
 -- rows, field by field: the channel and its width before a row of m octets, and the totals
-pub channel-before : (f : Form) (k : Channel) (w m : ℕ) (fs : List Field) → bitsIn fs ≡ 8 * m → Fits fs → k .«vc_id» < 256 → w < 256
+pub channel-before : (f : Form) (k : Channel) (w m : ℕ) (fs : List BitField) → bitsIn fs ≡ 8 * m → Fits fs → k .«vc_id» < 256 → w < 256
     → pack (columns f k ++ ("width", 8, w) ∷ fs)
     ≡ octets 2 (k .«spacecraft_id») ++ (octets 1 (k .«vc_id») ++ (octets (flagLong f) (bypassNumber (k .«sequence_control_flag»)) ++ (octets 1 w ++ pack fs)))
 channel-before f k w m fs whole h a b =
-    let rest : List Field = ("width", 8, w) ∷ fs in
+    let rest : List BitField = ("width", 8, w) ∷ fs in
     let bits : bitsIn rest ≡ 8 * (1 + m) = omega arith in
     let long = flag-bits k (1 + m) rest bits f in
     let fits = flag-fits k (1 + m) rest bits f (b, h) in
@@ -126,19 +123,19 @@ module _ (f : Form) (o : Out) where
       omega (arith, heard-size f k w t)
 
   pub entry-none : (s : SlotState) → s ≡ Closed → Puts o o (pack (row f s))
-  entry-none s e = subst (λ (z : SlotState). Puts o o (pack (row f z))) (sym e) (sym (add-zero (o .len)), sym (append-nil (written o)))
+  entry-none s e = subst (λ (z : SlotState). Puts o o (pack (row f z))) (sym e) (sym (add-zero (o .len)), sym (append-nil (soFar o)))
 
   pub entry-opened : (r : Out) (s : SlotState) {k : Channel} {w : ℕ} → s ≡ Opened k w
-      → (r .len ≡ o .len + unheardLong f) × (written r ≡ written o ++ pack (row f (Opened k w))) × Narrow k w → Puts o r (pack (row f s))
+      → (r .len ≡ o .len + unheardLong f) × (soFar r ≡ soFar o ++ pack (row f (Opened k w))) × Narrow k w → Puts o r (pack (row f s))
   entry-opened r s {k} {w} e h =
       subst (λ (z : SlotState). Puts o r (pack (row f z))) (sym e) (omega (arith, h .0, opened-size f k w), h .1)
 
   pub entry-heard : (a r : Out) (s : SlotState) {k : Channel} {w : ℕ} {t : Totals} → s ≡ Heard k w t
-      → (a .len ≡ o .len + unheardLong f) × (written a ≡ written o ++ pack (row f (Opened k w))) × Narrow k w
-      → (r .len ≡ a .len + 40) × (written r ≡ written a ++ pack (totalsRow t)) × Wide t → Puts o r (pack (row f s))
+      → (a .len ≡ o .len + unheardLong f) × (soFar a ≡ soFar o ++ pack (row f (Opened k w))) × Narrow k w
+      → (r .len ≡ a .len + 40) × (soFar r ≡ soFar a ++ pack (totalsRow t)) × Wide t → Puts o r (pack (row f s))
   entry-heard a r s {k} {w} {t} e p q =
       subst (λ (z : SlotState). Puts o r (pack (row f z))) (sym e) (
         omega (arith, p .0, q .0, heard-size f k w t),
-        two (written o) (pack (row f (Opened k w))) (pack (totalsRow t)) (p .1) (q .1)
-            ∙ ap (λ (l : List ℕ). written o ++ l) (sym (heard-row f k w t (q .2) (p .2 .0) (p .2 .1))),
+        two (soFar o) (pack (row f (Opened k w))) (pack (totalsRow t)) (p .1) (q .1)
+            ∙ ap (λ (l : List ℕ). soFar o ++ l) (sym (heard-row f k w t (q .2) (p .2 .0) (p .2 .1))),
       )

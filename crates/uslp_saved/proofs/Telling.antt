@@ -7,7 +7,7 @@ use native.Mathlib.Decide.{ℕ-discrete}
 use borrow.Author.Tests.{leb-true, leb-false, ltb-true, ltb-false, eqb-true, eqb-false}
 use lib.Dec.{eqb, leb, ltb}
 use Rattle.uslp_record.specs.Slots.{sameChannel, find, stateAt}
-use Rattle.uslp_record.specs.Made.{Openable, Tallied, Sound}
+use Rattle.uslp_record.specs.Made.{Openable, SoundTotals, Sound}
 use Rattle.uslp_record.specs.declared.Channel.{Channel}
 use Rattle.uslp_record.specs.declared.Totals.{Totals}
 use Rattle.uslp_record.specs.declared.SlotState.{SlotState}
@@ -43,7 +43,7 @@ module _ (s : SlotState) {k : Channel} {w : ℕ} where
     pub sound-not : b ≡ false → Tells false (Sound s)
     sound-not e = subst (λ (z : SlotState). Tells false (Sound z)) (sym is) (tells-not (λ p. o .1 e (p .0)))
 
-    pub sound-heard : b ≡ true → {d : Bool} → Tells d (Tallied w t) → Tells d (Sound s)
+    pub sound-heard : b ≡ true → {d : Bool} → Tells d (SoundTotals w t) → Tells d (Sound s)
     sound-heard e {d} h = subst (λ (z : SlotState). Tells d (Sound z)) (sym is) (λ f. (o .0 e, h .0 f), λ f p. h .1 f (p .1))
 
 -- the first slot that holds its channel

@@ -12,12 +12,12 @@ use Rattle.uslp_record.specs.declared.SlotState.{SlotState}
 use Rattle.uslp_record.specs.declared.ChannelRecord.{ChannelRecord}
 use Rattle.uslp_form.specs.Entries.{isOpened, isHeard}
 use Rattle.uslp_form.specs.declared.Form.{Form}
-use Rattle.uslp_form.specs.Form.{EntryWhole, GoodForm, restored}
+use Rattle.uslp_form.specs.Form.{EntrySaid, GoodForm, restored}
 use Rattle.uslp_form.specs.Saved.{Restoring}
 use Rattle.uslp_form.specs.Saved.Restoring.{good, bad}
 use Rattle.uslp_form.proofs.Each.{each-append, each-map}
 use Rattle.uslp_form.proofs.Rows.{Entry}
-use Rattle.uslp_form.specs.Said.{unheardLong, heardLong}
+use Rattle.uslp_form.specs.FromRow.{unheardLong, heardLong}
 use Rattle.uslp_saved.specs.Reading.{unheardIn, heardIn, firstCount, second, secondCount, unheardOfOctets, heardOfOctets, entriesOfOctets, Shaped, Flagged, AllAdmitted}
 use Rattle.uslp_saved.proofs.Entries.{unheard-reader, heard-reader, entries-each, unheard-long, entries-count, unheard-read, heard-read, long-read, flags-read, form-read}
 use Rattle.uslp_saved.proofs.Admits.{admits-all, all-admits}
@@ -48,12 +48,12 @@ module _ (f : Form) (s : List ℕ) where
         octets = form-read f s oct (shape .long) flags;
         unheard = each-map (Entry f isOpened) (λ (x : SlotState). isOpened x ≡ true) (λ x e. e .0) us u;
         heard = each-map (Entry f isHeard) (λ (x : SlotState). isHeard x ≡ true) (λ x e. e .0) hs h;
-        flags = each-append (EntryWhole f) us hs
-            (each-map (Entry f isOpened) (EntryWhole f) (λ x e. e .1 .1) us u)
-            (each-map (Entry f isHeard) (EntryWhole f) (λ x e. e .1 .1) hs h);
+        flags = each-append (EntrySaid f) us hs
+            (each-map (Entry f isOpened) (EntrySaid f) (λ x e. e .1 .1) us u)
+            (each-map (Entry f isHeard) (EntrySaid f) (λ x e. e .1 .1) hs h);
         sound = a .0;
-        first = a .1;
-        second = a .2;
+        unheard-ascend = a .1;
+        heard-ascend = a .2;
         once = a .3;
         few = omega (arith, entries-count f s, shape .few);
       }
@@ -68,7 +68,7 @@ module _ (f : Form) (s : List ℕ) where
     told-shaped = record { long = long-read f s vs gs g; few = omega (arith, entries-count f s, own .few) }
 
     told-admits : Admits
-    told-admits = counted (AllAdmitted f (restored (us ++ hs))) (all-admits f us hs (own .sound) (own .first) (own .second) (own .once))
+    told-admits = counted (AllAdmitted f (restored (us ++ hs))) (all-admits f us hs (own .sound) (own .unheard-ascend) (own .heard-ascend) (own .once))
 
   -- what restoring leaves
   module _ (r : ChannelRecord) where

@@ -18,7 +18,7 @@ use Rattle.uslp_record.specs.declared.SlotState.the-variants.{Opened, Heard}
 use Rattle.uslp_record.specs.declared.ChannelRecord.{ChannelRecord}
 use Rattle.uslp_form.specs.declared.Form.{Form}
 use Rattle.uslp_form.specs.Form.{row, rank}
-use Rattle.uslp_form.specs.Said.{flagLong, unheardLong, heardLong, openedBy, heardBy}
+use Rattle.uslp_form.specs.FromRow.{flagLong, unheardLong, heardLong, openedBy, heardBy}
 
 -- a channel and totals of zeros: their rows have the columns' names and widths
 abbrev pub noChannel : Channel
@@ -28,16 +28,16 @@ abbrev pub noTotals : Totals
 noTotals = record { last = 0; «handed_on» = 0; missing = 0; repeats = 0; late = 0 }
 
 -- what stands from a place on: a channel, and totals
-abbrev pub channelAt : Form → ℕ → List ℕ → Channel
-channelAt f at s =
+abbrev pub channelFrom : Form → ℕ → List ℕ → Channel
+channelFrom f at s =
     record {
       «spacecraft_id» = word at 2 s;
       «vc_id» = word (at + 2) 1 s;
       «sequence_control_flag» = bypassOf (word (at + 3) (flagLong f) s);
     }
 
-abbrev pub totalsAt : ℕ → List ℕ → Totals
-totalsAt at s =
+abbrev pub totalsFrom : ℕ → List ℕ → Totals
+totalsFrom at s =
     record {
       last = word at 8 s;
       «handed_on» = word (at + 8) 8 s;

@@ -5,8 +5,8 @@ use restoring::flags_fit;
 use restoring::has_form;
 use restoring::read_all;
 use saving::empty;
-use saving::lacks_flag;
 use saving::put_section;
+use saving::says_all;
 use uslp_form::Form;
 use uslp_kinds::DoneAnswer;
 use uslp_kinds::LengthAnswer;
@@ -31,11 +31,12 @@ pub const MAX_FORM_LEN: usize = 362;
 pub fn save(channels: ChannelRecord, form: Form, to: &mut [u8]) -> LengthAnswer
     ensures { λ r. ⌜ leaving (paperLength r) (now (to .exit)) ≡ saving form channels (now (to .entry)) ⌝ }
 {
-    if lacks_flag(channels, form) {
+    let slots = channels.slots;
+    if !says_all(slots, form) {
         return LengthAnswer::Refused(Refusal::LacksFlag);
     }
-    let unheard = put_section(empty(), channels, form, false);
-    let out = put_section(unheard, channels, form, true);
+    let unheard = put_section(empty(), slots, form, false);
+    let out = put_section(unheard, slots, form, true);
     let filled = out.octets;
     let found = to.len();
     let expected = out.len;

@@ -8,8 +8,8 @@ use uslp_form::Form;
 use uslp_kinds::BypassSequenceControlFlag;
 use uslp_kinds::MAX_COUNT_LEN;
 use uslp_kinds::MAX_VC_ID;
+use uslp_octets::be_number;
 use uslp_octets::be_u16;
-use uslp_octets::number_in;
 use uslp_record::Channel;
 use uslp_record::ChannelRecord;
 use uslp_record::MOST;
@@ -22,10 +22,10 @@ ghost use mathlib.Core.Path.{_≡_};
 ghost use Prim.Native.Nat.{_+_, _≤_, _<_};
 ghost use lib.ListN.{drop, getD, length};
 ghost use Rattle.uslp_octets.specs.Octets.{word};
-ghost use Rattle.uslp_record.specs.Made.{Openable, Tallied, Sound};
+ghost use Rattle.uslp_record.specs.Made.{Openable, SoundTotals, Sound};
 ghost use Rattle.uslp_form.specs.Form.{restored};
-ghost use Rattle.uslp_form.specs.Said.{unheardLong, heardLong};
-ghost use Rattle.uslp_saved.specs.Reading.{channelAt, totalsAt, unheardIn, heardIn, firstCount, secondCount, placeOf, entriesOfOctets, Shaped, Flagged, Tells, FirstAt, Above, Admitted, AllAdmitted};
+ghost use Rattle.uslp_form.specs.FromRow.{unheardLong, heardLong};
+ghost use Rattle.uslp_saved.specs.Reading.{channelFrom, totalsFrom, unheardIn, heardIn, firstCount, secondCount, placeOf, entriesOfOctets, Shaped, Flagged, Tells, FirstAt, Above, Admitted, AllAdmitted};
 
 // At most eight entries, and as many octets as the two counts say.
 pub(crate) fn has_form(form: Form, from: &[u8]) -> bool
@@ -129,7 +129,7 @@ fn read_heard(form: Form, from: &[u8], at: usize) -> SlotState
 // A column that is left out says 0: form 1 is for sequence-controlled channels.
 fn channel_at(form: Form, from: &[u8], at: usize) -> Channel
     requires { ⌜ at + unheardLong form ≤ length (now from) ⌝ }
-    ensures { λ r. ⌜ r ≡ channelAt form at (now (from .entry)) ⌝ }
+    ensures { λ r. ⌜ r ≡ channelFrom form at (now (from .entry)) ⌝ }
 {
     let flag = flag_at(form, from, at + 3);
     Channel {
@@ -141,7 +141,7 @@ fn channel_at(form: Form, from: &[u8], at: usize) -> Channel
 
 fn totals_at(from: &[u8], at: usize) -> Totals
     requires { ⌜ at + 40 ≤ length (now from) ⌝ }
-    ensures { λ r. ⌜ r ≡ totalsAt at (now (from .entry)) ⌝ }
+    ensures { λ r. ⌜ r ≡ totalsFrom at (now (from .entry)) ⌝ }
 {
     Totals {
         last: eight_at(from, at),
@@ -157,7 +157,7 @@ fn eight_at(from: &[u8], at: usize) -> u64
     requires { ⌜ at + 8 ≤ length (now from) ⌝ }
     ensures { λ r. ⌜ r ≡ word at 8 (now (from .entry)) ⌝ }
 {
-    number_in(&from[at..at + 8])
+    be_number(&from[at..at + 8])
 }
 
 // Each of the entries is as a good form asks.
@@ -244,7 +244,7 @@ fn sound(state: SlotState) -> bool
             if !openable(channel, width) {
                 return false;
             }
-            tallied(width, totals)
+            sound_totals(width, totals)
         }
     }
 }
@@ -261,9 +261,9 @@ fn openable(channel: Channel, width: u8) -> bool
     width <= MAX_COUNT_LEN
 }
 
-fn tallied(width: u8, totals: Totals) -> bool
+fn sound_totals(width: u8, totals: Totals) -> bool
     requires { ⌜ width ≤ 7 ⌝ }
-    ensures { λ r. ⌜ Tells r (Tallied width totals) ⌝ }
+    ensures { λ r. ⌜ Tells r (SoundTotals width totals) ⌝ }
 {
     if totals.last >= 1 << (8 * width) {
         return false;

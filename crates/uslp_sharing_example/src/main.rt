@@ -1,27 +1,25 @@
 // A pass shared both ways: handed over to consoles not yet updated, which read and write form 1, and taken back from them.
 use uslp_converting::convert;
+use uslp_end_to_end::hear_many;
 use uslp_form::Form;
 use uslp_kinds::BypassSequenceControlFlag;
 use uslp_kinds::DoneAnswer;
 use uslp_kinds::LengthAnswer;
-use uslp_many::hear_many;
+use uslp_kinds::NO_FECF;
+use uslp_kinds::written;
 use uslp_record::Channel;
 use uslp_record::ChannelRecord;
 use uslp_record::TotalAnswer;
 use uslp_saved::MAX_FORM_LEN;
 use uslp_saved::restore;
 use uslp_saved::save;
-ghost use mathlib.Core.Path.{_≡_};
-ghost use Prim.Native.Nat.{ℕ, _≤_};
-ghost use lib.ListN.{length};
 
 // What a console not yet updated restores, at the front of `octets`. Where a channel is expedited it is refused, and no flag is dropped.
-fn for_old(channels: ChannelRecord, octets: &mut [u8]) -> LengthAnswer
-    ensures { λ r. ⌜ ((n : ℕ) → r ≡ LengthAnswer.Done n → n ≤ length (now (octets .exit))) ⌝ }
-{
+fn for_old(channels: ChannelRecord, octets: &mut [u8]) -> LengthAnswer {
     let mut saved = [0u8; MAX_FORM_LEN];
-    match save(channels, Form::Two, &mut saved) {
-        LengthAnswer::Done(n) => convert(Form::Two, &saved[..n], Form::One, octets),
+    let length = save(channels, Form::Two, &mut saved);
+    match length {
+        LengthAnswer::Done(_) => convert(Form::Two, written(length, &saved), Form::One, octets),
         LengthAnswer::Refused(refusal) => LengthAnswer::Refused(refusal),
     }
 }
@@ -29,9 +27,10 @@ fn for_old(channels: ChannelRecord, octets: &mut [u8]) -> LengthAnswer
 // The record that a console not yet updated saved, in place of this one, which stays on a refusal.
 fn from_old(channels: ChannelRecord, octets: &[u8]) -> ChannelRecord {
     let mut saved = [0u8; MAX_FORM_LEN];
-    match convert(Form::One, octets, Form::Two, &mut saved) {
+    let length = convert(Form::One, octets, Form::Two, &mut saved);
+    match length {
         LengthAnswer::Done(n) => {
-            let restored = restore(channels, Form::Two, &saved[..n]);
+            let restored = restore(channels, Form::Two, written(length, &saved));
             let answer = restored.answer;
             match answer {
                 DoneAnswer::Done => say(b"taken back, octets in form 2: ", n as u64),
@@ -49,10 +48,11 @@ fn from_old(channels: ChannelRecord, octets: &[u8]) -> ChannelRecord {
 // There and back, into an empty record: what is known then came over both conversions.
 fn share(channels: ChannelRecord) -> ChannelRecord {
     let mut octets = [0u8; MAX_FORM_LEN];
-    match for_old(channels, &mut octets) {
+    let length = for_old(channels, &mut octets);
+    match length {
         LengthAnswer::Done(n) => {
             say(b"handed over, octets in form 1: ", n as u64);
-            from_old(ChannelRecord::new(), &octets[..n])
+            from_old(ChannelRecord::new(), written(length, &octets))
         }
         LengthAnswer::Refused(refusal) => {
             say(b"refused: ", refusal.number() as u64);
@@ -72,7 +72,7 @@ fn keep(channels: ChannelRecord) {
 
 // Frames end to end: how many are new, and how many never came before them.
 fn take(channels: ChannelRecord, pass: &[u8]) -> ChannelRecord {
-    let heard = hear_many(channels, pass, false);
+    let heard = hear_many(channels, pass, NO_FECF);
     let tally = heard.tally;
     say(b"new in the pass: ", tally.new);
     say(b"missing before them: ", tally.missing);

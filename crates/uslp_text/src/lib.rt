@@ -18,7 +18,7 @@ fn decimal_len(value: u64) -> usize
 }
 
 // Fills `to` with a number's low decimal digits.
-fn put_decimal(value: u64, to: &mut [u8])
+fn put_digits(value: u64, to: &mut [u8])
     ensures { λ _. ⌜ now (to .exit) ≡ digits (length (now (to .entry))) value ⌝ }
 {
     let mut rest = value;
@@ -46,11 +46,11 @@ pub fn put_text(text: &[u8], out: &mut [u8], at: usize) -> usize
 }
 
 // Puts a number's decimal numeral into a buffer, as a text.
-pub fn put_number(value: u64, out: &mut [u8], at: usize) -> usize
+pub fn put_decimal(value: u64, out: &mut [u8], at: usize) -> usize
     ensures { λ r. ⌜ Told (decimal value) at (now (out .entry)) r (now (out .exit)) ⌝ }
 {
     let mut numeral = [0u8; 20];
     let n = decimal_len(value);
-    put_decimal(value, &mut numeral[0..n]);
+    put_digits(value, &mut numeral[0..n]);
     put_text(&numeral[0..n], out, at)
 }

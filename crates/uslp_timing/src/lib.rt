@@ -9,13 +9,14 @@ use uslp_kinds::OperationalControlField;
 use uslp_kinds::ProtocolControlCommandFlag;
 use uslp_kinds::SourceOrDestField;
 use uslp_kinds::UslpProtocolId;
+use uslp_kinds::WITH_FECF;
 use uslp_primary_header::PrimaryHeader;
 use uslp_reader::FrameAnswer;
 use uslp_reader::TransferFrame;
 use uslp_writer::TransferFrameCreator;
 ghost use mathlib.Core.Path.{_≡_};
-ghost use mathlib.Core.Bool.{true};
 ghost use Rattle.uslp_checksum.specs.Checksum.{checksumOf};
+ghost use Rattle.uslp_kinds.specs.Managed.{fecf};
 ghost use Rattle.uslp_reader.specs.Reader.{frameReading};
 ghost use Rattle.uslp_writer.specs.Frame.{frameWriting};
 ghost use Rattle.uslp_timing.specs.Timing.{pointerNumber, ocfNumber, numbersOf, told, numbersFound, timed, lengthTold, octetsLeft};
@@ -31,11 +32,11 @@ pub extern "C" fn uslp_timing_checksum(message: &[u8]) -> u16
 #[no_mangle]
 pub extern "C" fn uslp_timing_read(octets: &[u8], found: &mut [u64; 16]) -> u8
     ensures { λ r. ⌜
-        (r ≡ told (frameReading (now (octets .entry)) true))
-        × (now (found .exit) ≡ numbersFound (frameReading (now (octets .entry)) true) (now (found .entry)))
+        (r ≡ told (frameReading (now (octets .entry)) fecf))
+        × (now (found .exit) ≡ numbersFound (frameReading (now (octets .entry)) fecf) (now (found .entry)))
         ⌝ }
 {
-    match TransferFrame::from_bytes(octets, true) {
+    match TransferFrame::from_bytes(octets, WITH_FECF) {
         FrameAnswer::Done(frame) => {
             *found = numbers_of(frame);
             0

@@ -11,7 +11,7 @@ use Rattle.uslp_kinds.proofs.Back.{leaving-one}
 use Rattle.uslp_data_field_header.specs.Field.{fieldChecking}
 use Rattle.uslp_layout.proofs.Laws.{length-fecf}
 use Rattle.uslp_layout.specs.Layout.{dataStart, ocfOctets, body}
-use Rattle.uslp_writer.specs.Frame.{total, completed, ocfMissing, headerOctets, frameOctets, frameWriting}
+use Rattle.uslp_writer.specs.Frame.{total, fieldsOf, ocfMissing, headerOctets, frameOctets, frameWriting}
 use Rattle.uslp_writer.specs.Reserved.{reservation, reservedOctets, reserving, claimed, finishLength, finishing, filled, filling, inTurn}
 use Rattle.uslp_writer.specs.declared.TransferFrameCreator.{TransferFrameCreator}
 use Rattle.uslp_writer.specs.declared.TransferFrameCreatorWithReservedData.{TransferFrameCreatorWithReservedData}
@@ -27,7 +27,7 @@ start c = dataStart (c .«primary_header») (c .«data_field_header»)
 
 -- the octets before the FECF, and how many they are
 abbrev bodyOf : TransferFrameCreator → List ℕ → List ℕ
-bodyOf c d = body 0 (completed c (total c (length d))) (c .«data_field_header») d (c .«operational_control_field»)
+bodyOf c d = body 0 (fieldsOf c d)
 
 abbrev before : TransferFrameCreator → ℕ → ℕ
 before c n = start c + n + length (ocfOctets (c .«operational_control_field»))

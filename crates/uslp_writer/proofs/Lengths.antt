@@ -10,7 +10,8 @@ use Rattle.uslp_kinds.specs.Outcome.{Outcome, done, refused, firstOf}
 use Rattle.uslp_kinds.proofs.Outcomes.{not-done, done-one, passed}
 use Rattle.uslp_kinds.proofs.Firsts.{Check, first-refused}
 use Rattle.uslp_kinds.specs.Kinds.{ruleNumber}
-use Rattle.uslp_primary_header.specs.Header.{countBad, headerChecking}
+use Rattle.uslp_kinds.specs.Kinds.{countBad}
+use Rattle.uslp_primary_header.specs.Header.{headerChecking}
 use Rattle.uslp_primary_header.specs.declared.PrimaryHeader.{PrimaryHeader}
 use Rattle.uslp_primary_header.proofs.Checks as header
 use Rattle.uslp_data_field_header.specs.Field.{pointerBad, fieldChecks, fieldChecking}
@@ -18,7 +19,7 @@ use Rattle.uslp_data_field_header.specs.declared.TransferFrameDataFieldHeader.{
 use Rattle.uslp_data_field_header.proofs.Checks as field
 use Rattle.uslp_layout.specs.Layout.{needed}
 use Rattle.uslp_layout.proofs.Laws.{field-le, cond-le}
-use Rattle.uslp_writer.specs.Frame.{flagged, total, ocfMissing, frameChecks, frameLength}
+use Rattle.uslp_writer.specs.Frame.{flagged, managedOf, total, ocfMissing, frameChecks, frameLength}
 use Rattle.uslp_writer.specs.declared.TransferFrameCreator.{TransferFrameCreator}
 
 -- what comes out of a check is what went in
@@ -137,7 +138,7 @@ module _ (c : TransferFrameCreator) (n : ℕ) {m : ℕ} (e : frameLength c n ≡
 
 -- the octets besides the data are few
 pub needed-in : (c : TransferFrameCreator) → headerChecking (c .«primary_header») ≡ done (c .«primary_header»)
-    → needed (flagged c) (c .«data_field_header») (c .«has_fecf») ≤ 23
+    → needed (flagged c) (c .«data_field_header») (managedOf c) ≤ 23
 needed-in c h =
     omega (
       arith,

@@ -8,7 +8,7 @@ use native.Mathlib.Decide.{decLt}
 use lib.Dec.{ltb}
 use lib.ListN.{length, drop}
 use borrow.Author.Tests.{lt-ltb, le-ltb}
-use Rattle.uslp_kinds.specs.Outcome.{Outcome, done, refused, Written, leaving, written, firstOf}
+use Rattle.uslp_kinds.specs.Outcome.{Outcome, done, refused, Written, leaving, onlyIfDone, firstOf}
 use Rattle.uslp_kinds.proofs.Outcomes.{not-done, done-one}
 use Rattle.uslp_kinds.proofs.Back.{back, refusal-back, leaving-one}
 use Rattle.uslp_primary_header.specs.Header.{headerChecking}
@@ -27,7 +27,7 @@ room c n s = (ltb (length s) (total c n), refused 2 (length s ∷ total c n ∷ 
 
 -- the answer x and the octets `new`, where no check fails
 abbrev writingOf : {A : Type 0} → TransferFrameCreator → ℕ → List ℕ → A → List ℕ → Written A
-writingOf c n s x new = written (firstOf (frameChecks c n ++ room c n s) (done x)) new s
+writingOf c n s x new = onlyIfDone (firstOf (frameChecks c n ++ room c n s) (done x)) new s
 
 module _ {A : Type 0} (c : TransferFrameCreator) (n : ℕ) (s : List ℕ) (x : A) (new : List ℕ) where
   of-refused : {k : ℕ} {vs : List ℕ} → frameLength c n ≡ refused k vs → writingOf c n s x new ≡ leaving (refused k vs) s

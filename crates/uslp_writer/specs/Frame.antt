@@ -5,11 +5,12 @@ use mathlib.Core.List.{List, [], _∷_, _++_}
 use lib.ListN.{length, drop}
 use lib.Dec.{ltb}
 use Rattle.uslp_octets.specs.Octets.{pack}
-use Rattle.uslp_kinds.specs.Outcome.{Outcome, done, refused, Written, written, firstOf}
+use Rattle.uslp_kinds.specs.Outcome.{Outcome, done, refused, Written, onlyIfDone, firstOf}
+use Rattle.uslp_kinds.specs.declared.ManagedParameters.{ManagedParameters}
 use Rattle.uslp_primary_header.specs.Header.{table, headerChecks, withLength}
 use Rattle.uslp_primary_header.specs.declared.PrimaryHeader.{PrimaryHeader}
 use Rattle.uslp_data_field_header.specs.Field.{fieldTable, fieldChecks}
-use Rattle.uslp_layout.specs.Layout.{needed, present, layout}
+use Rattle.uslp_layout.specs.Layout.{Fields, needed, present, layout}
 use Rattle.uslp_writer.specs.declared.TransferFrameCreator.{TransferFrameCreator}
 
 -- an OCF given sets the flag
@@ -28,9 +29,13 @@ flagged c =
       «vc_frame_count» = c .«primary_header» .«vc_frame_count»;
     }
 
+-- what reader and writer have to agree on for such a frame
+abbrev pub managedOf : TransferFrameCreator → ManagedParameters
+managedOf c = record { «has_fecf» = c .«has_fecf» }
+
 -- the total octets of a frame with n octets of data
 abbrev pub total : TransferFrameCreator → ℕ → ℕ
-total c n = needed (flagged c) (c .«data_field_header») (c .«has_fecf») + n
+total c n = needed (flagged c) (c .«data_field_header») (managedOf c) + n
 
 -- the header as it is written in a frame of so many octets: with the flag and the length updated
 abbrev pub completed : TransferFrameCreator → ℕ → PrimaryHeader
@@ -57,15 +62,23 @@ frameLength c n = firstOf (frameChecks c n) (done (total c n))
 abbrev pub headerOctets : TransferFrameCreator → ℕ → List ℕ
 headerOctets c octets = pack (table 0 (completed c octets)) ++ pack (fieldTable (c .«data_field_header»))
 
--- the octets of the frame
+-- the fields of the frame with these data, and its octets
+abbrev pub fieldsOf : TransferFrameCreator → List ℕ → Fields
+fieldsOf c contents =
+    record {
+      header = completed c (total c (length contents));
+      field = c .«data_field_header»;
+      contents = contents;
+      ocf = c .«operational_control_field»;
+    }
+
 abbrev pub frameOctets : TransferFrameCreator → List ℕ → List ℕ
-frameOctets c contents =
-    layout (c .«has_fecf») 0 (completed c (total c (length contents))) (c .«data_field_header») contents (c .«operational_control_field»)
+frameOctets c contents = layout (managedOf c) 0 (fieldsOf c contents)
 
 -- writing the frame over octets s: 10, 8, 9, 11, 12, 2; the octets past the total stay
 unfoldable pub frameWriting : TransferFrameCreator → List ℕ → List ℕ → Written ℕ
 frameWriting c contents s =
-    written
+    onlyIfDone
     (firstOf
     (frameChecks c (length contents) ++ (ltb (length s) (total c (length contents)), refused 2 (length s ∷ total c (length contents) ∷ [])) ∷ [])
     (done (total c (length contents))))

@@ -5,7 +5,7 @@ use mathlib.Core.List.{List, [], _∷_, _++_}
 use lib.ListN.{length, take, drop}
 use lib.Dec.{ltb}
 use Rattle.uslp_octets.specs.Octets.{overlaid}
-use Rattle.uslp_kinds.specs.Outcome.{Outcome, done, refused, andThen, Written, leaving, written, firstOf}
+use Rattle.uslp_kinds.specs.Outcome.{Outcome, done, refused, andThen, Written, leaving, onlyIfDone, firstOf}
 use Rattle.uslp_kinds.specs.Answers.{refusal}
 use Rattle.uslp_layout.specs.Layout.{dataStart, ocfOctets, withFecf}
 use Rattle.uslp_writer.specs.Frame.{total, headerOctets, frameChecks}
@@ -39,7 +39,7 @@ reservedOctets c n s =
 -- making it over octets s: 10, 8, 9, 11, 12, 2
 unfoldable pub reserving : TransferFrameCreator → ℕ → List ℕ → Written TransferFrameCreatorWithReservedData
 reserving c n s =
-    written
+    onlyIfDone
     (firstOf (frameChecks c n ++ (ltb (length s) (total c n), refused 2 (length s ∷ total c n ∷ [])) ∷ []) (done (reservation c n)))
     (reservedOctets c n s)
     s
@@ -61,7 +61,7 @@ finishLength k found =
 -- the FECF's two octets are written if asked for, else nothing
 abbrev pub finishing : TransferFrameCreatorWithReservedData → List ℕ → Written ℕ
 finishing k s =
-    written
+    onlyIfDone
     (finishLength k (length s))
     (cond (k .«has_fecf») (withFecf true (take (k .«len_written» - 2) s) ++ drop (k .«len_written») s) s)
     s
@@ -85,7 +85,7 @@ filled k d s = take (k .«data_index») s ++ (d ++ drop (k .«data_index» + k .
 -- octets laid over the data area as far as both reach, and how many: refused like finishing, 12, 7, 2
 abbrev pub filling : TransferFrameCreatorWithReservedData → List ℕ → List ℕ → Written ℕ
 filling k d s =
-    written
+    onlyIfDone
     (andThen (finishLength k (length s)) (λ (n : ℕ). done (min (length d) (k .«data_size»))))
     (filled k (overlaid d (areaIn k s)) s)
     s

@@ -3,6 +3,7 @@ use uslp_data_field_header::DataFieldHeaderAnswer;
 use uslp_data_field_header::TransferFrameDataFieldHeader;
 use uslp_kinds::LengthAnswer;
 use uslp_kinds::MAX_FRAME_LEN;
+use uslp_kinds::ManagedParameters;
 use uslp_kinds::OperationalControlField;
 use uslp_kinds::Refusal;
 use uslp_primary_header::HeaderAnswer;
@@ -71,7 +72,10 @@ fn total_of(frame: TransferFrameCreator, data_len: usize) -> LengthAnswer
     }
     let header = with_ocf_flag(frame);
     let field = frame.data_field_header;
-    let total = uslp_layout::needed_len(header, field, frame.has_fecf) + data_len;
+    let managed = ManagedParameters {
+        has_fecf: frame.has_fecf,
+    };
+    let total = uslp_layout::needed_len(header, field, managed) + data_len;
     if total > MAX_FRAME_LEN {
         return LengthAnswer::Refused(Refusal::TooLong);
     }

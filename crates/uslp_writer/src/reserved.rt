@@ -11,7 +11,7 @@ use uslp_kinds::Refusal;
 use uslp_layout::data_start;
 use uslp_layout::fecf_len;
 use uslp_octets::copy_octets;
-use uslp_octets::put_number;
+use uslp_octets::put_be_number;
 use uslp_primary_header::HeaderAnswer;
 use uslp_primary_header::PrimaryHeader;
 ghost use mathlib.Core.Path.{_≡_};
@@ -162,7 +162,7 @@ fn put_fecf(total: usize, buf: &mut [u8])
 {
     let end = total - 2;
     let sum = checksum(&buf[0..end]);
-    put_number(sum as u64, &mut buf[end..total]);
+    put_be_number(sum as u64, &mut buf[end..total]);
 }
 
 // Headers and OCF of a frame that has passed its checks.
@@ -226,6 +226,6 @@ fn put_ocf(ocf: OperationalControlField, at: usize, buf: &mut [u8])
 {
     if let OperationalControlField::Present(value) = ocf {
         let end = at + 4;
-        put_number(value as u64, &mut buf[at..end]);
+        put_be_number(value as u64, &mut buf[at..end]);
     }
 }

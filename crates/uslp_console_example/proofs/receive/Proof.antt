@@ -1,12 +1,12 @@
 -- `receive` ends: a call takes no more octets than the block has left, and one that takes none is the last.
 use mathlib.Core.Path.{_≡_, ap, sym, _∙_}
-use mathlib.Core.Bool.{Bool}
 use mathlib.Core.List.{List}
 use Prim.Native.Nat.{ℕ, _+_, _-_, _≤_}
 use native.Mathlib.Omega.{arith}
 use lib.ListN.{length, take, drop, length-drop}
 use lib.Seq.{length-take-le}
 use Rattle.uslp_kinds.specs.Outcome.{leaving}
+use Rattle.uslp_kinds.specs.declared.ManagedParameters.{ManagedParameters}
 use Rattle.uslp_reader.specs.declared.TransferFrame.{TransferFrame}
 use Rattle.uslp_intake.specs.Intake.{paperIntake, intaking}
 use Rattle.uslp_intake.specs.declared.IntakeAnswer.{IntakeAnswer}
@@ -22,13 +22,13 @@ Inv-loop holding₀ block channels₀ held₀ place₀ t13 holding channels held
 abbrev μ-loop : tie.MeasureT-loop
 μ-loop holding₀ block channels₀ held₀ place₀ t13 holding channels held place = length block - place
 
-within : (fecf : Bool) (s : List ℕ) (held : ℕ) (block t : List ℕ) (place : ℕ) (a : IntakeAnswer) (n : ℕ) (x : TransferFrame)
+within : (managed : ManagedParameters) (s : List ℕ) (held : ℕ) (block t : List ℕ) (place : ℕ) (a : IntakeAnswer) (n : ℕ) (x : TransferFrame)
     → place ≤ length block → a ≡ Frame n x
-    → leaving (paperIntake a) t ≡ intaking fecf s held (take (length block - place) (drop place block)) → place + n ≤ length block
-within fecf s held block t place a n x h e f =
+    → leaving (paperIntake a) t ≡ intaking managed s held (take (length block - place) (drop place block)) → place + n ≤ length block
+within managed s held block t place a n x h e f =
     let rest = take (length block - place) (drop place block) in
     let long = length-take-le (length block - place) (drop place block) (omega (arith, length-drop place block)) in
-    omega (arith, takes-most fecf s held rest t (paperIntake (Frame n x)) (sym f ∙ ap (λ (b : IntakeAnswer). leaving (paperIntake b) t) e))
+    omega (arith, takes-most managed s held rest t (paperIntake (Frame n x)) (sym f ∙ ap (λ (b : IntakeAnswer). leaving (paperIntake b) t) e))
 
 -- the frame, from behind the test of what was taken; the call; the function's entry
 abbrev frameOf : tie.Else1 Inv-loop μ-loop → tie.After-answer Inv-loop μ-loop

@@ -28,8 +28,8 @@ slice-write-buf c =
     let l = c .before .before .before in
     omega (arith, l .len-header .ensures, c .before .before .if1 .left, one-at-least (l .before .before .args .header))
 
-part-put-number-end : tie.Need-part-put-number-end
-part-put-number-end c =
+part-put-be-number-end : tie.Need-part-put-be-number-end
+part-put-be-number-end c =
     let c5 = c .before .before .before .before .before in
     let l = c5 .before in
     let a = l .before .before in
@@ -47,7 +47,7 @@ returns-2 c =
     let a = l .before .before in
     writing-pointer (a .args .header) (a .args .buf .now) (a .pre) _ (l .len-header .ensures) (m .before .before .if1 .left) _
     (ap₂ (λ (r i : ℕ). r * 32 + i) (m .before .number .ensures) (m .number2 .ensures))
-    _ _ (k .before .pointer .given .1) (omega (arith, k .known-told .given)) (c .before .before .put-number .ensures)
+    _ _ (k .before .pointer .given .1) (omega (arith, k .known-told .given)) (c .before .before .put-be-number .ensures)
 
 returns-3 : tie.Need-returns-3
 returns-3 c =
@@ -73,7 +73,7 @@ put-header-spec =
     (λ c. search needs)
     (λ c. search needs)
     (λ c. search needs)
-    part-put-number-end
+    part-put-be-number-end
     (λ c κs. search needs)
     (λ c. search needs)
     same-length

@@ -17,10 +17,10 @@ use Rattle.uslp_intake.proofs.take_wanted.Statement.{statement}
 use Rattle.uslp_intake.proofs.take_wanted.Tie as tie
 
 abbrev Inv-loop : tie.InvT-loop
-Inv-loop holding₀ held block has-fecf taken₀ holding taken = Taken has-fecf holding₀ held block taken holding
+Inv-loop holding₀ held block managed taken₀ holding taken = Taken managed holding₀ held block taken holding
 
 abbrev μ-loop : tie.MeasureT-loop
-μ-loop holding₀ held block has-fecf taken₀ holding taken = 5 - reached (take (held + taken) holding)
+μ-loop holding₀ held block managed taken₀ holding taken = 5 - reached (take (held + taken) holding)
 
 loop-holds : tie.Need-loop-holds Inv-loop μ-loop
 loop-holds c = taken-none _ _ _ _ (omega arith)
@@ -55,15 +55,15 @@ block-octets l i = l .before .shared-slice-known .given i .fits
 
 -- an answer to the reading names what is held
 answered : (d : tie.After-from-bytes Inv-loop μ-loop) {r : FrameAnswer} → d .from-bytes .result ≡ r
-    → let l = loopOf d in frameReading (take (startOf l .args .held + l .loop .taken) (l .loop .holding)) (startOf l .args .has-fecf) ≡ paperFrame r
+    → let l = loopOf d in frameReading (take (startOf l .args .held + l .loop .taken) (l .loop .holding)) (startOf l .args .managed) ≡ paperFrame r
 answered d e =
     let l = loopOf d in
     let n = startOf l .args .held + l .loop .taken in
-    ap (λ (t : List ℕ). frameReading t (startOf l .args .has-fecf)) (sym (first-part (l .loop .holding) n n refl))
+    ap (λ (t : List ℕ). frameReading t (startOf l .args .managed)) (sym (first-part (l .loop .holding) n n refl))
     ∙ sym (d .from-bytes .ensures) ∙ ap paperFrame e
 
 refused-as : (e : tie.After-lacking Inv-loop μ-loop) → let l = loopOf (readingOf e) in
-    frameReading (take (startOf l .args .held + l .loop .taken) (l .loop .holding)) (startOf l .args .has-fecf)
+    frameReading (take (startOf l .args .held + l .loop .taken) (l .loop .holding)) (startOf l .args .managed)
     ≡ refusal (e .before .before .refusal .given .0 .0)
 refused-as e = answered (readingOf e) (e .before .before .refusal .given .1)
 

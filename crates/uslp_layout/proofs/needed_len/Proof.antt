@@ -29,7 +29,7 @@ add-result-2 c =
       field-le (start .args .field),
       cond-le
           (start .args .header .«ocf_flag») 4 0 (omega arith),
-      cond-le (start .args .has-fecf) 2 0 (omega arith),
+      cond-le (start .args .managed .«has_fecf») 2 0 (omega arith),
       start,
     )
 

@@ -1,6 +1,8 @@
 -- `list` meets its contract: the heading, and the summary or the lines behind it.
+use mathlib.Core.Path.{ap}
 use native.Mathlib.Omega.{arith}
-use Rattle.uslp_text.proofs.Telling.{told-more}
+use Rattle.uslp_text.proofs.Telling.{told-more, told-as}
+use Rattle.uslp_listing.specs.Listing.{summary}
 use Rattle.uslp_listing.proofs.Lines.{summary-short, listing-long, listing-lines, over-short, over-done}
 use borrow.Author.Needs.{needs}
 use Rattle.uslp_listing.proofs.list.Statement.{statement}
@@ -12,9 +14,10 @@ returns c = over-short _ _ (omega arith)
 returns-2 : tie.Need-returns-2
 returns-2 c =
     let q = c .before .before in
-    let p = q .before .before .before .before .before in
+    let n = q .before .before in
+    let p = n .before .before .before .before in
     over-done _ _ (omega arith) (listing-long _ (omega arith)) (omega (arith, summary-short 0 0 12 (omega arith) (omega arith) (omega arith)))
-    (told-more (p .put-text .ensures) (q .put-summary .ensures))
+    (told-more (p .put-text .ensures) (told-as (ap (summary 0 0) (n .number .ensures)) (q .put-summary .ensures)))
 
 returns-3 : tie.Need-returns-3
 returns-3 c =
@@ -28,6 +31,7 @@ list-spec =
     (tie.spec
     returns
     (λ c. search needs)
+    (λ c κs. search needs)
     (λ c κs. search needs)
     (λ c κs. search needs)
     (λ c. search needs)

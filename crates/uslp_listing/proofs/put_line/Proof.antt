@@ -1,7 +1,7 @@
 -- `put_line` meets its contract: word by word, each behind the one before it.
 use mathlib.Core.Path.{ap}
 use Rattle.uslp_text.proofs.Telling.{told-as, told-more, told-long}
-use Rattle.uslp_listing.specs.Listing.{word}
+use Rattle.uslp_listing.specs.Listing.{spaced}
 use borrow.Author.Needs.{needs}
 use Rattle.uslp_listing.proofs.put_line.Statement.{statement}
 use Rattle.uslp_listing.proofs.put_line.Tie as tie
@@ -16,7 +16,7 @@ returns c =
     let d2 = d3 .before .before .before .before .before .before in
     let len = d2 .before .before .before in
     told-more (len .before .before .before .put-word .ensures)
-    (told-more (told-as (ap word (len .len-frame .ensures)) (d2 .put-word2 .ensures))
+    (told-more (told-as (ap spaced (len .len-frame .ensures)) (d2 .put-word2 .ensures))
     (told-more (d3 .put-word3 .ensures)
     (told-more (d4 .put-word4 .ensures)
     (told-more (d5 .put-word5 .ensures)

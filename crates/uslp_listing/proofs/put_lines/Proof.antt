@@ -1,10 +1,10 @@
 -- `put_lines` meets its contract. The loop's invariant: what is told from the place on completes the text.
 use mathlib.Core.Path.{_≡_, refl, ap, sym, _∙_}
 use Prim.Native.Nat.{ℕ, _-_}
-use mathlib.Core.Bool.{false}
 use mathlib.Core.List.{List}
 use native.Mathlib.Omega.{arith}
 use lib.ListN.{length, drop}
+use Rattle.uslp_kinds.specs.Managed.{noFecf}
 use Rattle.uslp_kinds.specs.Outcome.{done}
 use Rattle.uslp_reader.specs.Reader.{paperFrame, frameReading}
 use Rattle.uslp_reader.specs.declared.FrameAnswer.{FrameAnswer}
@@ -38,10 +38,10 @@ abbrev rest : tie.After-from-bytes Inv-loop μ-loop → List ℕ
 rest d = drop (loopOf d .loop .place) (startOf (loopOf d) .args .recording .now)
 
 -- an answer to the reading at the place names what stands there
-answered : (d : tie.After-from-bytes Inv-loop μ-loop) {r : FrameAnswer} → d .from-bytes .result ≡ r → frameReading (rest d) false ≡ paperFrame r
+answered : (d : tie.After-from-bytes Inv-loop μ-loop) {r : FrameAnswer} → d .from-bytes .result ≡ r → frameReading (rest d) noFecf ≡ paperFrame r
 answered d e =
     let place = loopOf d .loop .place in
-    ap (λ (t : List ℕ). frameReading t false) (sym (rest-part (startOf (loopOf d) .args .recording .now) place place refl))
+    ap (λ (t : List ℕ). frameReading t noFecf) (sym (rest-part (startOf (loopOf d) .args .recording .now) place place refl))
     ∙ sym (d .from-bytes .ensures) ∙ ap paperFrame e
 
 -- the frame, from behind its line; and its reading
@@ -51,7 +51,7 @@ frameOf c = c .before .before .before .before .before
 abbrev readOf : tie.After-known-told Inv-loop μ-loop → tie.After-from-bytes Inv-loop μ-loop
 readOf d = d .before .before .before
 
-reading : (d : tie.After-known-told Inv-loop μ-loop) → frameReading (rest (readOf d)) false ≡ done (d .before .frame .given .0 .0)
+reading : (d : tie.After-known-told Inv-loop μ-loop) → frameReading (rest (readOf d)) noFecf ≡ done (d .before .frame .given .0 .0)
 reading d = answered (readOf d) (d .before .frame .given .1)
 
 -- a turn: the frame's line behind the others
@@ -72,7 +72,7 @@ add-frames : tie.Need-add-frames Inv-loop μ-loop
 add-frames c = let i = loopOf (readOf (frameOf c)) .loop .inv in omega (arith, i .few, i .inside)
 
 loop-less : tie.Need-loop-less Inv-loop μ-loop
-loop-less c = omega (arith, loop-again c .inside, c .len-frame .ensures, frame-eight _ false (reading (frameOf c)))
+loop-less c = omega (arith, loop-again c .inside, c .len-frame .ensures, frame-eight _ noFecf (reading (frameOf c)))
 
 returns : tie.Need-returns Inv-loop μ-loop
 returns c =

@@ -1,6 +1,6 @@
 -- `many` meets its contract: the record is the one that hearing leaves.
 use mathlib.Core.Path.{ap}
-use Rattle.uslp_many.specs.Many.{KeptMany}
+use Rattle.uslp_end_to_end.specs.Many.{KeptMany}
 use borrow.Author.Needs.{needs}
 use Rattle.uslp_many_answers.proofs.many.Statement.{statement}
 use Rattle.uslp_many_answers.proofs.many.Tie as tie

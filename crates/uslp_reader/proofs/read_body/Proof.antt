@@ -22,7 +22,7 @@ abbrev startOf : tie.Else1 → tie.Start
 startOf d = d .before .before .before .before
 
 -- the frame has room for what it needs besides its data
-room : (d : tie.Else1) → let a = startOf d .args in needed (a .header) (a .field) (a .has-fecf) ≤ lenFrame (a .header)
+room : (d : tie.Else1) → let a = startOf d .args in needed (a .header) (a .field) (a .managed) ≤ lenFrame (a .header)
 room d = omega (arith, d .before .before .len-frame .ensures, d .before .needed-len .ensures, d .if1 .left)
 
 abbrev elseOf : tie.After-checksum → tie.Else1

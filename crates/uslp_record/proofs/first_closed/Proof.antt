@@ -6,7 +6,7 @@ use native.Mathlib.Omega.{arith}
 use lib.ListN.{drop}
 use Rattle.uslp_record.specs.Slots.{vacant, isClosed, slotOf}
 use Rattle.uslp_record.specs.declared.SlotState.the-variants.{Closed}
-use Rattle.uslp_record.proofs.Seek.{long-of, vacates, seek-end, seek-hit, seek-on}
+use Rattle.uslp_record.proofs.Seek.{eight-slots, vacates, seek-end, seek-hit, seek-on}
 use Rattle.uslp_record.proofs.first_closed.Statement.{statement}
 use Rattle.uslp_record.proofs.first_closed.Tie as tie
 
@@ -20,7 +20,7 @@ loop-again : tie.Need-loop-again Inv-loop μ-loop
 loop-again c =
     let l = c .before .before .before .before in
     let s = l .before .before in
-    let long = long-of (s .args .channels .slots) (s .good .0 .1 .1 .0 .1 .0 .1) in (
+    let long = eight-slots (s .args .channels) (s .good .0) in (
       omega arith,
       seek-on isClosed vacant vacates (s .args .channels .slots) (l .loop .i) long (l .loop .inv .1) (slotOf Closed) _ (omega arith)
           (c .before .state-closed .ensures) (c .if2 .left),
@@ -29,14 +29,14 @@ loop-again c =
 returns : tie.Need-returns Inv-loop μ-loop
 returns c =
     let s = c .before .before .before in
-    let long = long-of (s .args .channels .slots) (s .good .0 .1 .1 .0 .1 .0 .1) in
+    let long = eight-slots (s .args .channels) (s .good .0) in
     seek-end isClosed vacant vacates (s .args .channels .slots) (c .before .loop .i) long (c .before .loop .inv .1) (omega arith)
 
 returns-2 : tie.Need-returns-2 Inv-loop μ-loop
 returns-2 c =
     let l = c .before .before .before .before in
     let s = l .before .before in
-    let long = long-of (s .args .channels .slots) (s .good .0 .1 .1 .0 .1 .0 .1) in
+    let long = eight-slots (s .args .channels) (s .good .0) in
     seek-hit isClosed vacant vacates (s .args .channels .slots) (l .loop .i) long (l .loop .inv .1) (slotOf Closed) _ (omega arith)
     (c .before .state-closed .ensures) (c .if2 .taken)
 

@@ -6,7 +6,7 @@ use native.Mathlib.Omega.{arith}
 use lib.ListN.{drop}
 use Rattle.uslp_record.specs.Slots.{find, holds, slotOf}
 use Rattle.uslp_record.specs.declared.SlotState.the-variants.{Closed}
-use Rattle.uslp_record.proofs.Seek.{long-of, finds, seek-end, seek-hit, seek-on}
+use Rattle.uslp_record.proofs.Seek.{eight-slots, finds, seek-end, seek-hit, seek-on}
 use Rattle.uslp_record.proofs.search.Statement.{statement}
 use Rattle.uslp_record.proofs.search.Tie as tie
 
@@ -21,7 +21,7 @@ loop-again c =
     let l = c .before .before .before .before in
     let s = l .before .before in
     let k = s .args .channel in
-    let long = long-of (s .args .channels .slots) (s .good .0 .1 .1 .0 .1 .0 .1) in (
+    let long = eight-slots (s .args .channels) (s .good .0) in (
       omega arith,
       seek-on (holds k) (find k) (finds k) (s .args .channels .slots) (l .loop .i) long (l .loop .inv .1) (slotOf Closed) _ (omega arith)
           (c .before .state-holds .ensures) (c .if2 .left),
@@ -31,7 +31,7 @@ returns : tie.Need-returns Inv-loop μ-loop
 returns c =
     let s = c .before .before .before in
     let k = s .args .channel in
-    let long = long-of (s .args .channels .slots) (s .good .0 .1 .1 .0 .1 .0 .1) in
+    let long = eight-slots (s .args .channels) (s .good .0) in
     seek-end (holds k) (find k) (finds k) (s .args .channels .slots) (c .before .loop .i) long (c .before .loop .inv .1) (omega arith)
 
 returns-2 : tie.Need-returns-2 Inv-loop μ-loop
@@ -39,7 +39,7 @@ returns-2 c =
     let l = c .before .before .before .before in
     let s = l .before .before in
     let k = s .args .channel in
-    let long = long-of (s .args .channels .slots) (s .good .0 .1 .1 .0 .1 .0 .1) in
+    let long = eight-slots (s .args .channels) (s .good .0) in
     seek-hit (holds k) (find k) (finds k) (s .args .channels .slots) (l .loop .i) long (l .loop .inv .1) (slotOf Closed) _ (omega arith)
     (c .before .state-holds .ensures) (c .if2 .taken)
 

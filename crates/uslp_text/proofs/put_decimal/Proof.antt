@@ -1,63 +1,69 @@
--- `uslp_text::put_decimal` meets its contract. The loop's invariant: behind place `i` stand the number's low digits, and `rest` is what is left of it.
-use mathlib.Core.Path.{_≡_, refl, ap, ap₂, _∙_}
-use Prim.Native.Nat.{ℕ, _+_, _/_, _%_, _≤_, _^_, _-_}
-use mathlib.Core.List.{List, _++_}
+-- `uslp_text::put_decimal` meets its contract: twenty octets hold the numeral, which is put as a text.
+use mathlib.Core.Path.{_≡_, subst, ap, sym, _∙_}
+use Prim.Native.Nat.{ℕ, _-_, _^_, _<_, _≤_}
+use mathlib.Core.List.{List}
 use native.Mathlib.Omega.{arith}
-use lib.ListN.{length, set, take, length-set}
-use Rattle.uslp_text.specs.Text.{digits}
-use Rattle.uslp_octets.proofs.Laws.{filled-none, filled-more, filled-all, rest-all, rest-less}
+use lib.ListN.{length, take, drop, replicate, length-append}
+use lib.Seq.{length-take-le, take-at}
+use Rattle.uslp_text.specs.Text.{digits, width, decimal, Told}
+use Rattle.uslp_text.proofs.Width.{length-digits, decimal-short}
+use borrow.Author.Needs.{needs}
 use Rattle.uslp_text.proofs.put_decimal.Statement.{statement}
 use Rattle.uslp_text.proofs.put_decimal.Tie as tie
 
-abbrev Inv-loop : tie.InvT-loop
-Inv-loop value to₀ rest₀ i₀ to rest i =
-    (i ≤ length to₀) × (length to ≡ length to₀) × (rest ≡ value / 10 ^ (length to₀ - i)) × (to ≡ take i to₀ ++ digits (length to₀ - i) value)
+-- a number of 64 bits has twenty digits at most
+short : (n : ℕ) → n < 2 ^ 64 → width n ≤ 20
+short n h = omega (arith, decimal-short 19 n (omega arith), length-digits (width n) n)
 
-abbrev μ-loop : tie.MeasureT-loop
-μ-loop value to₀ rest₀ i₀ to rest i = i
+-- the octets before the numeral stands in them
+abbrev blank : List ℕ
+blank = replicate 20 0
 
-loop-holds : tie.Need-loop-holds Inv-loop μ-loop
-loop-holds c =
-    let a = c .args in (
-      omega arith,
-      refl,
-      rest-all 10 (length (a .to .now)) (a .value),
-      filled-none (λ (k : ℕ). digits k (a .value))
-          (λ (k : ℕ). 48 + a .value / 10 ^ k % 10) (λ k. refl) (a .to .now) refl,
-    )
+part-numeral-end : tie.Need-part-numeral-end
+part-numeral-end c = omega (arith, c .decimal-len .ensures, short (c .before .before .args .value) (omega (arith, c .before .before .fits .value)))
 
-loop-again : tie.Need-loop-again Inv-loop μ-loop
-loop-again c =
-    let a = c .before .before .args in
-    let l = c .before .loop in (
-      omega arith,
-      length-set (l .to) (l .i - 1) (48 + l .rest % 10) ∙ l .inv .1,
-      ap (λ (r : ℕ). r / 10) (l .inv .2) ∙ rest-less 10 (length (a .to .now)) (l .i) (a .value) (omega arith) (omega arith),
-      ap₂ (λ (d : List ℕ) (r : ℕ). set d (l .i - 1) (48 + r % 10)) (l .inv .3) (l .inv .2)
-          ∙ filled-more (λ (k : ℕ). digits k (a .value)) (λ (k : ℕ). 48 + a .value / 10 ^ k % 10) (λ k. refl) (a .to .now) (l .i) (omega arith) (omega arith),
-    )
+abbrev startOf : tie.After-put-digits → tie.Start
+startOf d = d .before .before .before .before
 
-same-length : tie.Need-same-length Inv-loop μ-loop
-same-length c = c .before .loop .inv .1
+-- what fills the part is the numeral
+numeral : (d : tie.After-put-digits) → d .put-digits .last .1 .0 ≡ decimal (startOf d .args .value)
+numeral d =
+    let v = startOf d .args .value in
+    let w = d .before .before .decimal-len in
+    let h = short v (omega (arith, startOf d .fits .value)) in
+    let long : length (take (w .result - 0) blank) ≡ width v = omega (arith, w .ensures, length-take-le (w .result - 0) blank (omega (arith, w .ensures))) in
+    d .put-digits .ensures ∙ ap (λ (k : ℕ). digits k v) long
 
-returns : tie.Need-returns Inv-loop μ-loop
+part-put-text-end : tie.Need-part-put-text-end
+part-put-text-end c =
+    let d = c .before .before in
+    let v = startOf d .args .value in
+    let n = d .before .before .decimal-len in
+    omega (arith, length-append (d .put-digits .last .1 .0) (drop (n .result - 0) blank), ap length (numeral d), length-digits (width v) v, n .ensures)
+
+returns : tie.Need-returns
 returns c =
-    let a = c .before .before .args in
-    let l = c .before .loop in
-    l .inv .3 ∙ filled-all (λ (k : ℕ). digits k (a .value)) (λ (k : ℕ). 48 + a .value / 10 ^ k % 10) (λ k. refl) (a .to .now) (l .i) (omega arith)
+    let p = c .before .before in
+    let d = p .before .before .before .before .before in
+    let a = startOf d .args in
+    let n = d .before .before .decimal-len .result in
+    let long : length (d .put-digits .last .1 .0) ≡ n = ap length (numeral d) ∙ length-digits (width (a .value)) (a .value)
+    ∙ sym (d .before .before .decimal-len .ensures) in
+    subst (λ (t : List ℕ). Told t (a .at) (a .out .now) (p .put-text .result) (p .put-text .last .1 .0))
+    (take-at (d .put-digits .last .1 .0) _ (n - 0) (omega (arith, long)) ∙ numeral d) (p .put-text .ensures)
 
 pub put-decimal-spec : {M : Type 1} → statement M
 put-decimal-spec =
     tie.close
     (tie.spec
-    Inv-loop
-    μ-loop
-    loop-holds
-    (λ c. omega arith)
-    (λ c. omega arith)
-    (λ c. omega arith)
-    (λ c. omega arith)
-    (λ c. omega arith)
-    loop-again
-    same-length
+    (λ c κs. search needs)
+    (λ c. search needs)
+    (λ c. search needs)
+    part-numeral-end
+    (λ c κs. search needs)
+    (λ c. search needs)
+    (λ c. search needs)
+    part-put-text-end
+    (λ c κs. search needs)
+    (λ c. search needs)
     returns)

@@ -6,7 +6,7 @@ use native.Mathlib.Omega.{arith}
 use Rattle.uslp_kinds.specs.Outcome.{done}
 use Rattle.uslp_primary_header.specs.declared.PrimaryHeader.{PrimaryHeader}
 use Rattle.uslp_layout.specs.Layout.{needed}
-use Rattle.uslp_writer.specs.Frame.{flagged, ocfMissing}
+use Rattle.uslp_writer.specs.Frame.{flagged, managedOf, ocfMissing}
 use Rattle.uslp_writer.specs.declared.TransferFrameCreator.{TransferFrameCreator}
 use Rattle.uslp_writer.proofs.Lengths.{length-ocf, length-long, length-done, needed-in}
 use borrow.Author.Needs.{needs}
@@ -19,7 +19,7 @@ given d = sym (d .before .ocf-missing .ensures) ∙ d .if1 .left
 
 -- the octets besides the data
 abbrev besidesOf : TransferFrameCreator → PrimaryHeader → ℕ
-besidesOf k h = needed h (k .«data_field_header») (k .«has_fecf»)
+besidesOf k h = needed h (k .«data_field_header») (managedOf k)
 
 abbrev frameOf : tie.After-needed-len → TransferFrameCreator
 frameOf d = d .before .before .before .before .before .before .args .frame

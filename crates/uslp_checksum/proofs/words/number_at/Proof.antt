@@ -12,7 +12,7 @@ returns c =
     let known = c .before .before in
     let a = known .before .args in
     let s = a .message .now in
-    c .number-in .ensures
+    c .be-number .ensures
     ∙ ap (λ (n : ℕ). n % 2 ^ 64) (word-part (a .at) (a .width) s (known .before .pre .1))
     ∙ word-fits s (a .at) (λ i. omega (arith, known .shared-slice-known .given i)) (a .width) (known .before .pre .0)
 

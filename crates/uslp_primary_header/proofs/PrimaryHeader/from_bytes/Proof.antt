@@ -14,15 +14,15 @@ use Rattle.uslp_primary_header.proofs.PrimaryHeader.from_bytes.Tie as t
 octs : (c : tie.After-shared-slice-known) → AreOctets (c .before .args .buf .now)
 octs c k = omega (arith, c .shared-slice-known .given k)
 
-abbrev knownOf : tie.After-number-in → tie.After-shared-slice-known
+abbrev knownOf : tie.After-be-number → tie.After-shared-slice-known
 knownOf c = c .before .before .before .before .before .before
 
 -- the number of the first seven octets
-fixed : (c : tie.After-number-in) → c .number-in .result ≡ word 0 7 (knownOf c .before .args .buf .now)
+fixed : (c : tie.After-be-number) → c .be-number .result ≡ word 0 7 (knownOf c .before .args .buf .now)
 fixed c =
     let k = knownOf c in
     let s = k .before .args .buf .now in
-    c .number-in .ensures ∙ ap (λ (n : ℕ). n % 2 ^ 64) (word-part 0 7 s (c .before .before .if3 .left)) ∙ word-fits s 0 (octs k) 7 (lit≤ tt)
+    c .be-number .ensures ∙ ap (λ (n : ℕ). n % 2 ^ 64) (word-part 0 7 s (c .before .before .if3 .left)) ∙ word-fits s 0 (octs k) 7 (lit≤ tt)
 
 returns : tie.Need-returns
 returns c = sym (reading-short _ (octs (c .before)) _ refl (c .if1 .taken))
@@ -62,7 +62,7 @@ returns-6 c =
     ap done (c .header-of .ensures)
     ∙ sym
     (reading-done _ (octs (e .before)) _ (fixed n) (e .if1 .left) (d .if2 .left) (n .before .before .if3 .left) (g .before .if4 .left)
-    (g .if5 .left) (c .before .read-count .ensures ∙ word-part 7 (n .number-in .result % 8) _ (g .if5 .left)))
+    (g .if5 .left) (c .before .read-count .ensures ∙ word-part 7 (n .be-number .result % 8) _ (g .if5 .left)))
 
 pub from-bytes-spec : {M : Type 1} → statement M
 from-bytes-spec =

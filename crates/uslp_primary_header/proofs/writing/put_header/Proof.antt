@@ -22,7 +22,7 @@ returns-2 c =
     let h = start .args .header in
     let s = start .args .buf .now in
     writing-put h s (start .pre) _ _ _ (d .len-header .ensures) (omega arith)
-    (fixed-put h s (omega arith) (f .fixed-of .ensures) (q .put-number .ensures)) (p .put-number2 .ensures)
+    (fixed-put h s (omega arith) (f .fixed-of .ensures) (q .put-be-number .ensures)) (p .put-be-number2 .ensures)
 
 pub put-header-spec : {M : Type 1} → statement M
 put-header-spec =

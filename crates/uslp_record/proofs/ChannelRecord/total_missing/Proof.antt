@@ -4,7 +4,7 @@ use Prim.Native.Nat.{_-_}
 use native.Mathlib.Omega.{arith}
 use Rattle.uslp_record.specs.Slots.{slotOf}
 use Rattle.uslp_record.specs.declared.SlotState.the-variants.{Closed}
-use Rattle.uslp_record.proofs.Seek.{long-of}
+use Rattle.uslp_record.proofs.Seek.{eight-slots}
 use Rattle.uslp_record.proofs.Tally.{Tallied, tallied-none, tallied-all, tallied-add, tallied-stop}
 use Rattle.uslp_record.proofs.ChannelRecord.total_missing.Statement.{statement}
 use Rattle.uslp_record.proofs.ChannelRecord.total_missing.Tie as tie
@@ -22,20 +22,20 @@ returns : tie.Need-returns Inv-loop μ-loop
 returns c =
     let l = c .before .before .before .before in
     let s = l .before .before in
-    let long = long-of (s .args .self .slots) (s .good .0 .1 .1 .0 .1 .0 .1) in
+    let long = eight-slots (s .args .self) (s .good .0) in
     tallied-stop (s .args .self) (l .loop .i) (l .loop .sum) long (l .loop .inv) (slotOf Closed) _ (omega arith) (c .before .missing-of .ensures) (omega arith)
 
 loop-again : tie.Need-loop-again Inv-loop μ-loop
 loop-again c =
     let l = c .before .before .before .before in
     let s = l .before .before in
-    let long = long-of (s .args .self .slots) (s .good .0 .1 .1 .0 .1 .0 .1) in
+    let long = eight-slots (s .args .self) (s .good .0) in
     tallied-add (s .args .self) (l .loop .i) (l .loop .sum) long (l .loop .inv) (slotOf Closed) _ (omega arith) (c .before .missing-of .ensures) (omega arith)
 
 returns-2 : tie.Need-returns-2 Inv-loop μ-loop
 returns-2 c =
     let s = c .before .before .before in
-    let long = long-of (s .args .self .slots) (s .good .0 .1 .1 .0 .1 .0 .1) in
+    let long = eight-slots (s .args .self) (s .good .0) in
     tallied-all (s .args .self) (c .before .loop .i) (c .before .loop .sum) long (c .before .loop .inv) (omega arith)
 
 pub total-missing-spec : {M : Type 1} → statement M

@@ -12,7 +12,7 @@ returns c =
     let known = c .before .before in
     let a = known .before .args in
     let s = a .from .now in
-    c .number-in .ensures
+    c .be-number .ensures
     ∙ ap (λ (n : ℕ). n % 2 ^ 64) (word-part (a .at) 8 s (known .before .pre))
     ∙ word-fits s (a .at) (λ i. omega (arith, known .shared-slice-known .given i)) 8 (omega arith)
 

@@ -4,7 +4,7 @@ use mathlib.Core.Path.{_≡_, ap}
 use Prim.Native.Nat.{ℕ, _+_, _*_, _<_}
 use native.Mathlib.Omega.{arith}
 use lib.ListN.{length, getD}
-use Rattle.uslp_form.specs.Said.{heardLong}
+use Rattle.uslp_form.specs.FromRow.{heardLong}
 use Rattle.uslp_saved.specs.Reading.{secondCount}
 use Rattle.uslp_saved.proofs.Telling.{tells-not, tells-eq}
 use Rattle.uslp_saved.proofs.restoring.has_form.Statement.{statement}

@@ -16,8 +16,8 @@ returns c =
     let m = o .before .before in
     sound-not (m .before .before .args .state) (m .state2 .given .1) (o .openable2 .ensures) (not-true _ (c .if1 .taken))
 
-tallied-requires : tie.Need-tallied-requires
-tallied-requires c κs = c .before .openable2 .ensures .0 (not-false _ (c .if1 .left)) .narrow
+sound-totals-requires : tie.Need-sound-totals-requires
+sound-totals-requires c κs = c .before .openable2 .ensures .0 (not-false _ (c .if1 .left)) .narrow
 
 returns-2 : tie.Need-returns-2
 returns-2 c = subst (λ (z : SlotState). Tells true (Sound z)) (sym (c .enum-told .given .1)) (tells-so tt)
@@ -31,7 +31,7 @@ returns-4 : tie.Need-returns-4
 returns-4 c =
     let o = c .before .before in
     let m = o .before .before in
-    sound-heard (m .before .before .args .state) (m .state2 .given .1) (o .openable2 .ensures) (not-false _ (c .before .if1 .left)) (c .tallied .ensures)
+    sound-heard (m .before .before .args .state) (m .state2 .given .1) (o .openable2 .ensures) (not-false _ (c .before .if1 .left)) (c .sound-totals .ensures)
 
 pub sound-spec : {M : Type 1} → statement M
 sound-spec =
@@ -43,7 +43,7 @@ sound-spec =
     (λ c. search needs)
     (λ c κs. search needs)
     returns
-    tallied-requires
+    sound-totals-requires
     returns-2
     returns-3
     returns-4)

@@ -9,7 +9,7 @@ returns c =
     let c4 = c .before .before .before .before in
     let a = c4 .before .before .before .before in
     fecf-put (a .args .total) _ (a .args .buf .now) _ (a .pre .0) (a .pre .1) (c4 .checksum .ensures)
-    (c .before .before .put-number .ensures)
+    (c .before .before .put-be-number .ensures)
 
 pub put-fecf-spec : {M : Type 1} → statement M
 put-fecf-spec =

@@ -8,8 +8,8 @@ use borrow.Author.Needs.{needs}
 use Rattle.uslp_writer.proofs.reserved.put_ocf.Statement.{statement}
 use Rattle.uslp_writer.proofs.reserved.put_ocf.Tie as tie
 
-part-put-number-end : tie.Need-part-put-number-end
-part-put-number-end c =
+part-put-be-number-end : tie.Need-part-put-be-number-end
+part-put-be-number-end c =
     let a = c .before .before .before .before in
     omega (arith, ap (λ x. length (ocfOctets x)) (c .before .ocf .given .1), a .pre)
 
@@ -18,7 +18,7 @@ returns c =
     let c5 = c .before .before .before .before .before in
     let a = c5 .before .before .before in
     ocf-put (a .args .ocf) _ (a .args .at) (a .args .buf .now) _ (c5 .ocf .given .1) (a .pre)
-    (c .before .before .put-number .ensures)
+    (c .before .before .put-be-number .ensures)
 
 returns-2 : tie.Need-returns-2
 returns-2 c =
@@ -34,7 +34,7 @@ put-ocf-spec =
     (λ c. search needs)
     (λ c. search needs)
     (λ c. search needs)
-    part-put-number-end
+    part-put-be-number-end
     (λ c κs. search needs)
     (λ c. search needs)
     (λ c. search needs)

@@ -1,5 +1,5 @@
 -- `TransferFrameReader::map_id` meets its contract, by the walk of `Held`.
-use Rattle.uslp_lent.specs.Kept.{paperId}
+use Rattle.uslp_lent.specs.Accessors.{paperId}
 use Rattle.uslp_lent.proofs.Held.{by-parts}
 use Rattle.uslp_lent.proofs.ReaderHolder.{reader, id-answer, Shows}
 use Rattle.uslp_lent.proofs.parts.map_id.Symbol as callee

@@ -1,5 +1,5 @@
 -- `TransferFrameReader::operational_control_field` meets its contract, by the walk of `Held`.
-use Rattle.uslp_lent.specs.Kept.{paperOcf}
+use Rattle.uslp_lent.specs.Accessors.{paperOcf}
 use Rattle.uslp_lent.proofs.Held.{by-parts}
 use Rattle.uslp_lent.proofs.ReaderHolder.{reader, ocf-answer, Shows}
 use Rattle.uslp_lent.proofs.parts.operational_control_field.Symbol as callee

@@ -1,5 +1,5 @@
 -- `TransferFrameReader::source_or_dest_field` meets its contract, by the walk of `Held`.
-use Rattle.uslp_lent.specs.Kept.{paperRole}
+use Rattle.uslp_lent.specs.Accessors.{paperRole}
 use Rattle.uslp_lent.proofs.Held.{by-parts}
 use Rattle.uslp_lent.proofs.ReaderHolder.{reader, role-answer, Shows}
 use Rattle.uslp_lent.proofs.parts.source_or_dest_field.Symbol as callee

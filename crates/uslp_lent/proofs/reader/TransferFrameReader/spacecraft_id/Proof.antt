@@ -1,5 +1,5 @@
 -- `TransferFrameReader::spacecraft_id` meets its contract, by the walk of `Held`.
-use Rattle.uslp_lent.specs.Kept.{paperId}
+use Rattle.uslp_lent.specs.Accessors.{paperId}
 use Rattle.uslp_lent.proofs.Held.{by-parts}
 use Rattle.uslp_lent.proofs.ReaderHolder.{reader, id-answer, Shows}
 use Rattle.uslp_lent.proofs.parts.spacecraft_id.Symbol as callee
