@@ -1,4 +1,6 @@
 // What the bench says: an answer, piece by piece on standard output. Nothing is handed back and nothing lent is changed.
+#![tactic(auto)]
+
 use libc::STDOUT_FILENO;
 use uslp_data_field_header::TransferFrameDataFieldHeader;
 use uslp_kinds::{FhpOrLvo, LengthAnswer, OperationalControlField, Refusal};

@@ -1,4 +1,6 @@
 // The bench: a command on each line of standard input, an answer on each line of standard output.
+#![tactic(auto)]
+
 use command::answer;
 use libc::STDIN_FILENO;
 use uslp_kinds::MAX_FRAME_LEN;

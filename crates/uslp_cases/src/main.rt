@@ -1,4 +1,6 @@
 // Runs the cases that are not proved as theorems, and prints what each answers: the refusal's number, or 0.
+#![tactic(auto)]
+
 use uslp_data_field_header::TransferFrameDataFieldHeader;
 use uslp_kinds::{
     BypassSequenceControlFlag, ConstructionRule, FhpOrLvo, LengthAnswer, ManagedParameters,

@@ -1,4 +1,6 @@
 // The checksum of a message, CRC-16/IBM-3740, in three forms: by words, by a table, bit by bit. Each is proved equal to the definition in specs/.
+#![tactic(auto)]
+
 ghost use Rattle.std.specs.Prelude.{◌≡◌};
 ghost use Rattle.uslp_checksum.specs.Checksum.{feed, lows, bits, checksum_of};
 

@@ -1,4 +1,6 @@
 // A console: it hears frames of one channel, and knows which never came, over a restart and from octets in blocks too.
+#![tactic(auto)]
+
 use uslp_end_to_end::hear_many;
 use uslp_form::Form;
 use uslp_hearing::{FrameArrival, HearAnswer, handed_on, hear, hear_frame};

@@ -1,4 +1,6 @@
 // A saved record from one form to the other, as octets: so that consoles of both kinds can share it.
+#![tactic(auto)]
+
 ghost use Rattle.uslp_kinds.specs.Outcome.{leaving};
 ghost use Rattle.uslp_kinds.specs.Answers.{paper_length};
 ghost use Rattle.uslp_form.specs.Saved.{Converting};

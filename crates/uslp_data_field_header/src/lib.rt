@@ -1,4 +1,6 @@
 // The header of the transfer frame data field: construction rule, protocol id, and a pointer for rules 0 to 2.
+#![tactic(auto)]
+
 ghost use Rattle.std.specs.Prelude.{◌≡◌};
 ghost use Rattle.uslp_kinds.specs.Outcome.{done, leaving};
 ghost use Rattle.uslp_kinds.specs.Answers.{paper_length};

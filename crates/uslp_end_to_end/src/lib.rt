@@ -1,4 +1,6 @@
 // Hearing frames that stand end to end, in one call.
+#![tactic(auto)]
+
 ghost use Rattle.std.specs.Prelude.{◌≡◌, List, ℕ, ◌<◌, ◌^◌};
 ghost use Rattle.uslp_kinds.specs.Outcome.{done, refused};
 ghost use Rattle.uslp_reader.specs.declared.TransferFrame.{TransferFrame};

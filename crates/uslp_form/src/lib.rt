@@ -1,4 +1,5 @@
 // The record kept over a restart: the octets of a saved record. specs/ says what they are, proofs/ what follows. No function.
+#![tactic(auto)]
 
 // Which columns a saved record has.
 #[derive(Drop)]

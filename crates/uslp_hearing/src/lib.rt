@@ -1,4 +1,6 @@
 // Hearing a frame: it is read first, then counted; NEW hands its data on.
+#![tactic(auto)]
+
 ghost use Rattle.std.specs.Prelude.{◌≡◌};
 ghost use Rattle.uslp_octets.specs.Octets.{PartOf};
 ghost use Rattle.uslp_kinds.specs.Outcome.{done, and_then};

@@ -1,4 +1,6 @@
 // The intake: octets come in blocks, cut anywhere, and frames go out as they become whole.
+#![tactic(auto)]
+
 ghost use Rattle.std.specs.Prelude.{◌≡◌, ◌+◌, ◌≤◌, length, drop};
 ghost use Rattle.std.proofs.Math.Seq.{paste};
 ghost use Rattle.uslp_kinds.specs.Outcome.{leaving};

@@ -1,4 +1,6 @@
 // What the bench says of a block that the intake takes, and how many octets are held after it.
+#![tactic(auto)]
+
 ghost use Rattle.std.specs.Prelude.{◌≡◌};
 ghost use Rattle.uslp_intake.specs.Intake.{intaking};
 ghost use Rattle.uslp_intake_answers.specs.Fed.{fed};

@@ -1,4 +1,6 @@
 // The refusals of the library, the kinds of field that a frame carries, and the answers that carry nothing, a number or an id.
+#![tactic(auto)]
+
 ghost use Rattle.std.specs.Prelude.{◌≡◌};
 ghost use Rattle.uslp_kinds.specs.Kinds.{source_or_dest_number, source_or_dest_of, bypass_number, bypass_of, command_number, command_of, rule_number, rule_of, fixed_length, protocol_number, protocol_of};
 ghost use Rattle.uslp_octets.specs.Octets.{PartOf, part_in, part_at};

@@ -1,4 +1,6 @@
 // Where the parts of a frame stand: one function for each sentence that says so.
+#![tactic(auto)]
+
 ghost use Rattle.std.specs.Prelude.{◌≡◌, cond};
 ghost use Rattle.uslp_layout.specs.Layout.{data_start, needed};
 

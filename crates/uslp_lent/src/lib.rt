@@ -1,4 +1,6 @@
 // The lent forms: setters over a header lent for writing, and a reader that keeps the lent frame.
+#![tactic(auto)]
+
 mod parts;
 pub mod reader;
 pub mod setters;

@@ -1,4 +1,6 @@
 // Lists recordings: the files that the arguments name, `-` for standard input, or standard input where there is no argument.
+#![tactic(auto)]
+
 ghost use Rattle.std.specs.Prelude.{◌≡◌, length};
 
 use libc::{STDIN_FILENO, STDOUT_FILENO};

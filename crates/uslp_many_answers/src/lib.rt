@@ -1,4 +1,6 @@
 // What the bench says of frames heard in one call, and the record after it.
+#![tactic(auto)]
+
 ghost use Rattle.std.specs.Prelude.{◌≡◌};
 ghost use Rattle.uslp_end_to_end.specs.Many.{many_hearing};
 

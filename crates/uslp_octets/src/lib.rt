@@ -1,4 +1,6 @@
 // Octets: copying them between slices, parts of them, and numbers as octets, big-endian.
+#![tactic(auto)]
+
 ghost use Rattle.std.specs.Prelude.{◌≡◌, ◌+◌, ◌*◌, ◌%◌, ◌^◌, length};
 ghost use Rattle.uslp_octets.specs.Octets.{octets, word, overlaid, part_in, part_at, PartOf};
 

@@ -1,4 +1,6 @@
 // The primary header of a frame: a value, whose methods take it and hand back a new one.
+#![tactic(auto)]
+
 ghost use Rattle.std.specs.Prelude.{◌≡◌, ◌-◌, ◌≤◌};
 ghost use Rattle.uslp_primary_header.specs.Header.{paper_header, len_header, len_frame, header_making, count_setting, length_setting, same_but_width};
 

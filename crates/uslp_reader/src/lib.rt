@@ -1,4 +1,6 @@
 // The reader on a slice and numbers: headers, OCF, and where the data stand in the lent octets.
+#![tactic(auto)]
+
 ghost use Rattle.std.specs.Prelude.{◌≡◌, ◌+◌, ◌≤◌, cond, length, drop};
 ghost use Rattle.uslp_octets.specs.Octets.{PartOf};
 ghost use Rattle.uslp_kinds.specs.Outcome.{done};

@@ -1,4 +1,6 @@
 // The channel record on numbers: eight slots by value, and what each call makes of them.
+#![tactic(auto)]
+
 ghost use Rattle.std.specs.Prelude.{◌≡◌, ◌<◌};
 ghost use Rattle.uslp_kinds.specs.Answers.{paper_done};
 ghost use Rattle.uslp_record.specs.Slots.{same_channel, state_holds, state_closed, find, vacant, put, empty_record};

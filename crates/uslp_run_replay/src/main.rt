@@ -1,4 +1,6 @@
 // Answers commands whose expected answers are the Rust's own.
+#![tactic(auto)]
+
 fn main() {
     uslp_bench::run();
 }

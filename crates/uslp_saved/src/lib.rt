@@ -1,4 +1,6 @@
 // The record kept over a restart: saved as octets of either form, and restored from them.
+#![tactic(auto)]
+
 ghost use Rattle.std.specs.Prelude.{◌≡◌};
 ghost use Rattle.uslp_kinds.specs.Outcome.{leaving};
 ghost use Rattle.uslp_kinds.specs.Answers.{paper_done, paper_length};

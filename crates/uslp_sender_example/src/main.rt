@@ -1,4 +1,6 @@
 // A sender: two octets of mass, as a frame, to standard output.
+#![tactic(auto)]
+
 use uslp_data_field_header::TransferFrameDataFieldHeader;
 use uslp_kinds::{
     ConstructionRule, FhpOrLvo, LengthAnswer, OperationalControlField, SourceOrDestField,

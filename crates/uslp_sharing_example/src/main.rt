@@ -1,4 +1,6 @@
 // A pass shared both ways: handed over to consoles not yet updated, which read and write form 1, and taken back from them.
+#![tactic(auto)]
+
 use uslp_converting::convert;
 use uslp_end_to_end::hear_many;
 use uslp_form::Form;

@@ -1,4 +1,6 @@
 // Decimal numerals as text, and texts put one behind another into a buffer.
+#![tactic(auto)]
+
 ghost use Rattle.std.specs.Prelude.{◌≡◌, length};
 ghost use Rattle.uslp_text.specs.Text.{digits, width, decimal, Told};
 

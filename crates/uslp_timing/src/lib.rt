@@ -1,4 +1,6 @@
 // The checksum, a reading and a writing under names that C can call, for the harness in tools/ that times them beside the Rust's.
+#![tactic(auto)]
+
 ghost use Rattle.std.specs.Prelude.{◌≡◌};
 ghost use Rattle.uslp_checksum.specs.Checksum.{checksum_of};
 ghost use Rattle.uslp_kinds.specs.Managed.{fecf};

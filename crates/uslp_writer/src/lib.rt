@@ -1,4 +1,6 @@
 // The two frame writers. Headers, OCF and FECF choice stand in a value; data and buffer are given to the writing call.
+#![tactic(auto)]
+
 ghost use Rattle.std.specs.Prelude.{◌≡◌};
 ghost use Rattle.uslp_kinds.specs.Outcome.{done};
 ghost use Rattle.uslp_kinds.specs.Answers.{paper_length};
