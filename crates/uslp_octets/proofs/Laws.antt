@@ -283,8 +283,8 @@ module _ (run : ℕ → List ℕ) (cell : ℕ → ℕ) (more : (k : ℕ) → run
       sym (take-length d) ∙ sym (append-nil (take (length d) d)) ∙ ap (λ (l : List ℕ). take (length d) d ++ l) (sym e ∙ ap run z)
 
 -- what is left of a number after so many cells of a base
-pub rest-less : (b n i v : ℕ) → 0 < i → i ≤ n → v / b ^ (n - i) / b ≡ v / b ^ (n - (i - 1))
-rest-less b n i v h k =
+pub rest_less : (b n i v : ℕ) → 0 < i → i ≤ n → v / b ^ (n - i) / b ≡ v / b ^ (n - (i - 1))
+rest_less b n i v h k =
     let f : n - (i - 1) ≡ suc (n - i) = omega arith in
     div-div-eq-div-mul v (b ^ (n - i)) b ∙ ap (λ (p : ℕ). v / p) (sym (pow-suc b (n - i)) ∙ ap (λ (m : ℕ). b ^ m) (sym f))
 

@@ -101,22 +101,22 @@ rest_of f = let l = loop_of (reading_of f.before) in length (start_of l).args.bl
 abbrev lackedBy : tie.After-lacking invariant-loop decreases-loop → ℕ
 lackedBy e = lacking_of e.before.before.refusal.given.0.0
 
-rest-less : (g : tie.Then2 invariant-loop decreases-loop) → rest_of g.before < lackedBy g.before.before
-rest-less g = omega (arith, g.before.before.lacking.ensures, g.if2.true)
+rest_less : (g : tie.Then2 invariant-loop decreases-loop) → rest_of g.before < lackedBy g.before.before
+rest_less g = omega (arith, g.before.before.lacking.ensures, g.if2.true)
 
 rest_all : (f : tie.Else1 invariant-loop decreases-loop) → let l = loop_of (reading_of f.before) in l.loop.taken + rest_of f ≤ length (start_of l).args.block.now
 rest_all f = all_of (loop_of (reading_of f.before)).loop.inv.inside
 
 rest-fits : (g : tie.Then2 invariant-loop decreases-loop) → let l = loop_of (reading_of g.before.before) in
     (start_of l).args.held + l.loop.taken + rest_of g.before ≤ 65536
-rest-fits g = let e = g.before.before in let l = loop_of (reading_of e) in taken_fits (start_of l).pre.1 l.loop.inv (refused_as e) (le_of_lt (rest-less g))
+rest-fits g = let e = g.before.before in let l = loop_of (reading_of e) in taken_fits (start_of l).pre.1 l.loop.inv (refused_as e) (le_of_lt (rest_less g))
 
 hold-requires : tie.Need-hold-requires invariant-loop decreases-loop
 hold-requires c κs =
     let g = c.before in
     let e = g.before.before in
     let l = loop_of (reading_of e) in
-    (taken_room (start_of l).pre.1 l.loop.inv (refused_as e) (le_of_lt (rest-less g)), rest_all g.before)
+    (taken_room (start_of l).pre.1 l.loop.inv (refused_as e) (le_of_lt (rest_less g)), rest_all g.before)
 
 add-t21 : tie.Need-overflow-add-t21 invariant-loop decreases-loop
 add-t21 c = let g = c.before.before.before.before in let h = rest-fits g in omega (arith, h)
@@ -130,7 +130,7 @@ same-length-3 c =
     let g = h.before.before in
     let e = g.before.before in
     let l = loop_of (reading_of e) in
-    left_long (start_of l).pre.1 l.loop.inv (refused_as e) _ (le_of_lt (rest-less g)) (rest_all g.before) h.hold.ensures
+    left_long (start_of l).pre.1 l.loop.inv (refused_as e) _ (le_of_lt (rest_less g)) (rest_all g.before) h.hold.ensures
 
 returns-3 : tie.Need-returns-3 invariant-loop decreases-loop
 returns-3 c =
@@ -138,7 +138,7 @@ returns-3 c =
     let g = h.before.before in
     let e = g.before.before in
     let l = loop_of (reading_of e) in
-    taken_waits (start_of l).pre.1 l.loop.inv (refused_as e) (holding-octets l) (block-octets l) (rest-less g) h.hold.ensures
+    taken_waits (start_of l).pre.1 l.loop.inv (refused_as e) (holding-octets l) (block-octets l) (rest_less g) h.hold.ensures
 
 -- the block has all that is lacking
 wanted-lacks : (e : tie.After-lacking invariant-loop decreases-loop) → e.lacking.result ≤ lackedBy e

@@ -5,7 +5,7 @@ use mathlib.Core.List.{List, ◌++◌}
 use native.Mathlib.Omega.{arith}
 use lib.ListN.{length, set, take, length-set}
 use Rattle.uslp_text.specs.Text.{digits}
-use Rattle.uslp_octets.proofs.Laws.{filled_none, filled_more, filled_all, rest_all, rest-less}
+use Rattle.uslp_octets.proofs.Laws.{filled_none, filled_more, filled_all, rest_all, rest_less}
 use Rattle.uslp_text.proofs.put_digits.Statement.{statement}
 use Rattle.uslp_text.proofs.put_digits.Tie as tie
 
@@ -32,7 +32,7 @@ loop-again c =
     let l = c.before.loop in (
       omega arith,
       length-set l.to (l.i - 1) (48 + l.rest % 10) ∙ l.invariant.1,
-      ap (λ (r : ℕ). r / 10) l.invariant.2 ∙ rest-less 10 (length a.to.now) l.i a.value (omega arith) (omega arith),
+      ap (λ (r : ℕ). r / 10) l.invariant.2 ∙ rest_less 10 (length a.to.now) l.i a.value (omega arith) (omega arith),
       ap₂ (λ (d : List ℕ) (r : ℕ). set d (l.i - 1) (48 + r % 10)) l.invariant.3 l.invariant.2
           ∙ filled_more (λ (k : ℕ). digits k a.value) (λ (k : ℕ). 48 + a.value / 10 ^ k % 10) (λ k. refl) a.to.now l.i (omega arith) (omega arith),
     )
