@@ -11,14 +11,14 @@ use uslp_kinds::{
 };
 use uslp_octets::{be_u16, put_be_number};
 
-#[derive(Drop)]
+#[derive(Clone, Copy)]
 pub struct TransferFrameDataFieldHeader {
     pub construction_rule: ConstructionRule,
     pub uslp_protocol_id: UslpProtocolId,
     pub fhp_or_lvo: FhpOrLvo,
 }
 
-#[derive(Drop)]
+#[derive(Clone, Copy)]
 pub enum DataFieldHeaderAnswer {
     Done(TransferFrameDataFieldHeader),
     Refused(Refusal),

@@ -16,7 +16,7 @@ use uslp_reader::{FrameAnswer, TransferFrame};
 use uslp_record::{Arrival, ChannelRecord, SLOTS, Slot, SlotAnswer, search};
 
 // How many frames were NEW, the sum of their gaps, how many were REPEAT and LATE, and how many got 13, 14 and 17.
-#[derive(Drop)]
+#[derive(Clone, Copy)]
 pub struct Tally {
     pub new: u64,
     pub missing: u64,
@@ -29,7 +29,7 @@ pub struct Tally {
 
 // What the call comes to: the place reached, the tally of the frames before it, and the record after them. `stop` is DONE
 // where the octets are used up, else the reader's refusal of what is left.
-#[derive(Drop)]
+#[derive(Clone, Copy)]
 pub struct ManyHearing {
     pub place: usize,
     pub tally: Tally,

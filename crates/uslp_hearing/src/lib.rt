@@ -14,21 +14,21 @@ use uslp_reader::{FrameAnswer, TransferFrame};
 use uslp_record::{Arrival, ArrivalAnswer, Channel, ChannelRecord};
 
 // What hearing a frame finds: NEW, with the frame and how many are missing before it, or nothing to hand on.
-#[derive(Drop)]
+#[derive(Clone, Copy)]
 pub enum FrameArrival {
     New { gap: u64, frame: TransferFrame },
     Repeat,
     Late,
 }
 
-#[derive(Drop)]
+#[derive(Clone, Copy)]
 pub enum HearAnswer {
     Done(FrameArrival),
     Refused(Refusal),
 }
 
 // An answer to a hearing, and the record after it.
-#[derive(Drop)]
+#[derive(Clone, Copy)]
 pub struct Hearing {
     pub answer: HearAnswer,
     pub next: ChannelRecord,

@@ -11,7 +11,7 @@ use uslp_octets::copy_octets;
 use uslp_reader::{FrameAnswer, TransferFrame};
 
 // What a call did with its block: how many octets it took, and how many the holding buffer now holds.
-#[derive(Drop)]
+#[derive(Clone, Copy)]
 pub enum IntakeAnswer {
     // The block is taken whole, and what is held is no frame yet.
     Waiting {

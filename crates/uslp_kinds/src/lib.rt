@@ -18,7 +18,7 @@ pub const MAX_COUNT_LEN: u8 = 7;
 pub const MAX_FRAME_LEN: usize = 65536;
 
 // What both ends of a link agree on beforehand, which no frame says.
-#[derive(Drop)]
+#[derive(Clone, Copy)]
 pub struct ManagedParameters {
     pub has_fecf: bool,
 }
@@ -29,25 +29,25 @@ pub const WITH_FECF: ManagedParameters = ManagedParameters { has_fecf: true };
 pub const NO_FECF: ManagedParameters = ManagedParameters { has_fecf: false };
 
 // Whether the spacecraft id names the source or the destination of the frame.
-#[derive(Drop)]
+#[derive(Clone, Copy)]
 pub enum SourceOrDestField {
     Source,
     Dest,
 }
 
-#[derive(Drop)]
+#[derive(Clone, Copy)]
 pub enum BypassSequenceControlFlag {
     SequenceControlledQoS,
     ExpeditedQoS,
 }
 
-#[derive(Drop)]
+#[derive(Clone, Copy)]
 pub enum ProtocolControlCommandFlag {
     TfdfContainsUserData,
     TfdfContainsProtocolInfo,
 }
 
-#[derive(Drop)]
+#[derive(Clone, Copy)]
 pub enum ConstructionRule {
     PacketSpanningMultipleFrames,
     StartOfMapaSduOrVcaSdu,
@@ -59,7 +59,7 @@ pub enum ConstructionRule {
     NoSegmentation,
 }
 
-#[derive(Drop)]
+#[derive(Clone, Copy)]
 pub enum UslpProtocolId {
     SpacePacketsOrEncapsulation,
     Cop1ControlCommands,
@@ -74,20 +74,20 @@ pub enum UslpProtocolId {
 }
 
 // The first header pointer or last valid octet pointer: rules 0 to 2 have one.
-#[derive(Drop)]
+#[derive(Clone, Copy)]
 pub enum FhpOrLvo {
     Absent,
     Present(u16),
 }
 
-#[derive(Drop)]
+#[derive(Clone, Copy)]
 pub enum OperationalControlField {
     Absent,
     Present(u32),
 }
 
 // Why a call was refused, with what a person at the bench needs to act.
-#[derive(Drop)]
+#[derive(Clone, Copy)]
 pub enum Refusal {
     ShortSource { found: usize, expected: usize },
     ShortTarget { found: usize, expected: usize },
@@ -111,20 +111,20 @@ pub enum Refusal {
 }
 
 // For a call that only leaves something changed.
-#[derive(Drop)]
+#[derive(Clone, Copy)]
 pub enum DoneAnswer {
     Done,
     Refused(Refusal),
 }
 
 // How many octets were written, or are needed.
-#[derive(Drop)]
+#[derive(Clone, Copy)]
 pub enum LengthAnswer {
     Done(usize),
     Refused(Refusal),
 }
 
-#[derive(Drop)]
+#[derive(Clone, Copy)]
 pub enum ProtocolIdAnswer {
     Done(UslpProtocolId),
     Refused(Refusal),

@@ -20,7 +20,7 @@ pub const USLP_VERSION_NUMBER: u8 = 12;
 // The octets before the count.
 pub const FIXED_LEN: usize = 7;
 
-#[derive(Drop)]
+#[derive(Clone, Copy)]
 pub struct PrimaryHeader {
     pub spacecraft_id: u16,
     pub source_or_dest_field: SourceOrDestField,
@@ -35,7 +35,7 @@ pub struct PrimaryHeader {
     pub vc_frame_count: u64,
 }
 
-#[derive(Drop)]
+#[derive(Clone, Copy)]
 pub enum HeaderAnswer {
     Done(PrimaryHeader),
     Refused(Refusal),

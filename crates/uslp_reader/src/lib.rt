@@ -16,7 +16,7 @@ use uslp_octets::{be_u16, be_u32, part};
 use uslp_primary_header::{HeaderAnswer, PrimaryHeader};
 
 // What a frame says, and where its data stand in the octets that it was read from.
-#[derive(Drop)]
+#[derive(Clone, Copy)]
 pub struct TransferFrame {
     pub primary_header: PrimaryHeader,
     pub data_field_header: TransferFrameDataFieldHeader,
@@ -25,7 +25,7 @@ pub struct TransferFrame {
     pub data_len: usize,
 }
 
-#[derive(Drop)]
+#[derive(Clone, Copy)]
 pub enum FrameAnswer {
     Done(TransferFrame),
     Refused(Refusal),

@@ -18,7 +18,7 @@ mod reserved;
 mod writing;
 
 // A frame but for its data.
-#[derive(Drop)]
+#[derive(Clone, Copy)]
 pub struct TransferFrameCreator {
     pub primary_header: PrimaryHeader,
     pub data_field_header: TransferFrameDataFieldHeader,
@@ -27,7 +27,7 @@ pub struct TransferFrameCreator {
 }
 
 // A frame whose headers and OCF are written, as numbers; the buffer is lent again to each call.
-#[derive(Drop)]
+#[derive(Clone, Copy)]
 pub struct TransferFrameCreatorWithReservedData {
     pub data_index: usize,
     pub data_size: usize,
@@ -35,7 +35,7 @@ pub struct TransferFrameCreatorWithReservedData {
     pub has_fecf: bool,
 }
 
-#[derive(Drop)]
+#[derive(Clone, Copy)]
 pub enum ReservedAnswer {
     Done(TransferFrameCreatorWithReservedData),
     Refused(Refusal),
