@@ -26,6 +26,7 @@ pub enum DataFieldHeaderAnswer {
 
 impl TransferFrameDataFieldHeader {
     // Refuses BAD_POINTER with the rule.
+    #[tactic(auto, unfolding(crate::specs::Field::field_making))]
     pub fn new(
         construction_rule: ConstructionRule,
         uslp_protocol_id: UslpProtocolId,
@@ -73,6 +74,7 @@ impl TransferFrameDataFieldHeader {
     }
 
     // The header itself where it can be written. Refuses BAD_POINTER with the rule.
+    #[tactic(auto, unfolding(crate::specs::Field::field_checking))]
     pub fn checked(self) -> DataFieldHeaderAnswer
         ensures { paper_field result ≡ field_checking self }
     {
@@ -85,6 +87,7 @@ impl TransferFrameDataFieldHeader {
     }
 
     // Refuses SHORT_SOURCE (one octet, then three for rules 0 to 2), then BAD_PROTOCOL.
+    #[tactic(auto, unfolding(crate::specs::Field::field_reading))]
     pub fn from_bytes(buf: &[u8]) -> DataFieldHeaderAnswer
         ensures { paper_field result ≡ field_reading buf.now }
     {
@@ -104,6 +107,7 @@ impl TransferFrameDataFieldHeader {
     }
 
     // Refuses BAD_POINTER, then SHORT_TARGET.
+    #[tactic(auto, unfolding(crate::specs::Field::field_writing, crate::specs::Field::field_checking))]
     pub fn write_to_slice(self, buf: &mut [u8]) -> LengthAnswer
         ensures { leaving (paper_length result) buf.new ≡ field_writing self buf.old }
     {
@@ -138,6 +142,7 @@ fn with_protocol(rule: ConstructionRule, number: u8, pointer: FhpOrLvo) -> DataF
 }
 
 // A header that can be written, over the front of the octets.
+#[tactic(auto, unfolding(crate::specs::Field::field_writing, crate::specs::Field::field_checking))]
 fn put_header(header: TransferFrameDataFieldHeader, buf: &mut [u8]) -> LengthAnswer
     requires { field_checking header ≡ done header }
     ensures { leaving (paper_length result) buf.new ≡ field_writing header buf.old }

@@ -43,6 +43,7 @@ pub enum HeaderAnswer {
 
 impl PrimaryHeader {
     // A header with no count, for user data, sequence controlled, without OCF. Refuses BAD_FIELD.
+    #[tactic(auto, unfolding(crate::specs::Header::header_making))]
     pub fn new(
         spacecraft_id: u16,
         source_or_dest_field: SourceOrDestField,
@@ -73,6 +74,7 @@ impl PrimaryHeader {
     }
 
     // The header with this count. Refuses BAD_FIELD for the width, then BAD_COUNT.
+    #[tactic(auto, unfolding(crate::specs::Header::count_setting))]
     pub fn with_vc_frame_count(self, count_len: u8, count: u64) -> HeaderAnswer
         ensures { paper_header result ≡ count_setting self count_len count }
     {
@@ -92,6 +94,7 @@ impl PrimaryHeader {
     }
 
     // The header with this total of octets, which it keeps less one. Refuses TOO_LONG.
+    #[tactic(auto, unfolding(crate::specs::Header::length_setting))]
     pub fn with_frame_len(self, frame_len: usize) -> HeaderAnswer
         ensures { paper_header result ≡ length_setting self frame_len }
     {

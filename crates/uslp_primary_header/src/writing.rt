@@ -12,6 +12,7 @@ use uslp_octets::put_be_number;
 
 impl PrimaryHeader {
     // The header itself where it can be written. Refuses BAD_FIELD, then BAD_COUNT.
+    #[tactic(auto, unfolding(crate::specs::Header::header_checking))]
     pub fn checked(self) -> HeaderAnswer
         ensures { paper_header result ≡ header_checking self }
     {
@@ -33,6 +34,7 @@ impl PrimaryHeader {
     }
 
     // Length and OCF flag are written as they are. Refuses BAD_FIELD, BAD_COUNT, SHORT_TARGET.
+    #[tactic(auto, unfolding(crate::specs::Header::header_writing, crate::specs::Header::header_checking))]
     pub fn write_to_slice(self, buf: &mut [u8]) -> LengthAnswer
         ensures { leaving (paper_length result) buf.new ≡ header_writing self buf.old }
     {
