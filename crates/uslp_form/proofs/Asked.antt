@@ -1,9 +1,9 @@
 -- What is asked of a record is answered alike after it was saved and restored.
 use mathlib.Core.Path.{◌≡◌, refl, sym, ◌∙◌, ap}
-use Prim.Native.Nat.{◌-◌, ◌<◌}
+use Prim.Native.Nat.{◌<◌}
 use native.Mathlib.Omega.{arith}
 use native.Mathlib.Decide.{dec_lt}
-use Rattle.uslp_kinds.specs.Outcome.{done, refused}
+use Rattle.uslp_kinds.specs.Outcome.{done}
 use Rattle.uslp_record.specs.Slots.{holds, find, slot_of}
 use Rattle.uslp_record.specs.Record.{showing, missing_in, console_total}
 use Rattle.uslp_record.specs.declared.Channel.{Channel}

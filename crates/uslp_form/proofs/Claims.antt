@@ -29,7 +29,7 @@ use Rattle.uslp_record.specs.declared.ChannelRecord.{ChannelRecord}
 use Rattle.uslp_form.specs.Entries.{is_opened, is_heard}
 use Rattle.uslp_record.specs.Made.{Made}
 use Rattle.uslp_form.specs.declared.Form.{Form}
-use Rattle.uslp_form.specs.Form.{flag_column, columns, row, says_all, RecordSaid, rows, section, form, insert, sorted, form_of, GoodForm, restored}
+use Rattle.uslp_form.specs.Form.{flag_column, columns, row, says_all, RecordSaid, rows, section, insert, sorted, form_of, GoodForm, restored}
 use Rattle.uslp_form.specs.declared.Form.TheVariants.{One, Two}
 use Rattle.uslp_form.specs.FromRow.{heard_long}
 use Rattle.uslp_form.specs.Saved.{saving, Restoring}

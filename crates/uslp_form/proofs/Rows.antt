@@ -2,11 +2,11 @@
 use mathlib.Core.Path.{◌≡◌, refl, sym, ◌∙◌, ap, ap₂}
 use mathlib.Core.Bool.{Bool, true}
 use mathlib.Core.List.{List, [], ◌∷◌, ◌++◌, append_assoc, append-nil}
-use Prim.Native.Nat.{ℕ, ◌+◌, ◌*◌, ◌/◌}
+use Prim.Native.Nat.{ℕ, ◌*◌, ◌/◌}
 use native.Mathlib.Omega.{arith}
 use lib.ListN.{length, drop, get_or}
 use lib.Seq.{drop_at}
-use Rattle.uslp_octets.specs.Octets.{BitField, Fits, bits_in, value_of, octets, pack, unpack, named}
+use Rattle.uslp_octets.specs.Octets.{BitField, Fits, bits_in, value_of, pack, unpack, named}
 use Rattle.uslp_octets.proofs.Laws.{length_octets, unpack_pack}
 use Rattle.uslp_kinds.specs.Outcome.{done, refused}
 use Rattle.uslp_kinds.specs.Kinds.{bypass_of}

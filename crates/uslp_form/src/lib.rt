@@ -2,7 +2,7 @@
 #![tactic(auto)]
 
 // Which columns a saved record has.
-#[derive(Drop)]
+#[derive(Clone, Copy)]
 pub enum Form {
     // None for the bypass flag: for sequence-controlled channels.
     One,

@@ -1,23 +1,18 @@
 -- Laws of the search over eight slots, for whichever slot is sought.
-use Rattle.std.proofs.Common.{◌≡◌, ℕ, suc, ◌+◌, ◌<◌, ◌≤◌, Bool, true, false, cond, eqb, List, [], ◌∷◌, map, length, get_or, drop, sym, refl, ap, ◌∙◌, add-one, arith, drop_of_length-le, drop-cons, eq-eqb, ne_eqb}
-use lib.ListN.{length-map}
+use Rattle.std.proofs.Common.{◌≡◌, ℕ, suc, ◌+◌, ◌<◌, ◌≤◌, Bool, true, false, cond, eqb, List, [], ◌∷◌, length, get_or, drop, sym, refl, ap, ◌∙◌, add-one, arith, drop_of_length-le, drop-cons, eq-eqb, ne_eqb}
 use Rattle.uslp_kinds.specs.Kinds.{bypass_number}
 use mir.Val.{Val}
 use denote.Laws.{Is}
 use denote.Struct.Declared.{row}
 use Rattle.uslp_record.specs.contracts.ChannelRecord as record_type
-use Rattle.uslp_record.specs.contracts.Slot as slot_type
 use Rattle.uslp_record.specs.Slots.{same_channel, holds, is_closed, find, vacant}
 use Rattle.uslp_record.specs.declared.Channel.{Channel}
 use Rattle.uslp_record.specs.declared.Slot.{Slot}
 use Rattle.uslp_record.specs.declared.ChannelRecord.{ChannelRecord}
 
-long_of : (l : List Slot) → length (map (slot_type.the_field).into l) ≡ 8 → length l ≡ 8
-long_of l e = sym (length-map l (slot_type.the_field).into) ∙ e
-
 -- what a function is told at its entry of a record that it is passed, `c.good.0`, says that it has eight slots
 pub eight_slots : (r : ChannelRecord) {vs : List Val} → Is (row record_type.the_type) r vs → length r.slots ≡ 8
-eight_slots r h = long_of r.slots h.1.1.0.1.0.1
+eight_slots r h = h.1.1.0.1.0.1
 
 -- f seeks the first slot that passes the test
 pub record Seeks (test : Slot → Bool) (f : List Slot → ℕ) : Type 0 where

@@ -88,7 +88,7 @@ impl Slot {
 }
 
 // What a frame is to a channel, with the totals after it; where one of them is full, those are of no use.
-#[derive(Drop)]
+#[derive(Clone, Copy)]
 struct Step {
     full: bool,
     arrival: Arrival,

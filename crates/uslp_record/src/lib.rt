@@ -17,7 +17,7 @@ pub const SLOTS: usize = 8;
 pub const MOST: u64 = 0x0FFF_FFFF_FFFF_FFFF;
 
 // A spacecraft id with a channel number and the bypass flag: sequence-controlled and expedited frames are numbered apart.
-#[derive(Drop)]
+#[derive(Clone, Copy)]
 pub struct Channel {
     pub spacecraft_id: u16,
     pub vc_id: u8,
@@ -25,7 +25,7 @@ pub struct Channel {
 }
 
 // What a heard channel has counted; last is the count of its furthest frame.
-#[derive(Drop)]
+#[derive(Clone, Copy)]
 pub struct Totals {
     pub last: u64,
     pub handed_on: u64,
@@ -34,7 +34,7 @@ pub struct Totals {
     pub late: u64,
 }
 
-#[derive(Drop)]
+#[derive(Clone, Copy)]
 pub enum SlotState {
     Closed,
     Opened {
@@ -48,59 +48,59 @@ pub enum SlotState {
     },
 }
 
-#[derive(Drop)]
+#[derive(Clone, Copy)]
 pub struct Slot {
     pub state: SlotState,
 }
 
-#[derive(Drop)]
+#[derive(Clone, Copy)]
 pub struct ChannelRecord {
     pub slots: [Slot; SLOTS],
 }
 
 // An answer, and the record after the call.
-#[derive(Drop)]
+#[derive(Clone, Copy)]
 pub struct Recorded {
     pub answer: DoneAnswer,
     pub next: ChannelRecord,
 }
 
-#[derive(Drop)]
+#[derive(Clone, Copy)]
 pub enum TotalAnswer {
     Done(u64),
     Refused(Refusal),
 }
 
 // What a slot that holds a channel has.
-#[derive(Drop)]
+#[derive(Clone, Copy)]
 pub enum StateAnswer {
     Done(SlotState),
     Refused(Refusal),
 }
 
 // What hearing a frame finds: NEW with how many frames are missing before it, or nothing to hand on.
-#[derive(Drop)]
+#[derive(Clone, Copy)]
 pub enum Arrival {
     New(u64),
     Repeat,
     Late,
 }
 
-#[derive(Drop)]
+#[derive(Clone, Copy)]
 pub enum ArrivalAnswer {
     Done(Arrival),
     Refused(Refusal),
 }
 
 // What hearing a frame's count finds, and the record after it.
-#[derive(Drop)]
+#[derive(Clone, Copy)]
 pub struct CountHearing {
     pub answer: ArrivalAnswer,
     pub next: ChannelRecord,
 }
 
 // What a frame's count is to the slot that holds its channel, and the slot after it.
-#[derive(Drop)]
+#[derive(Clone, Copy)]
 pub enum SlotAnswer {
     Done { arrival: Arrival, slot: Slot },
     Refused(Refusal),
