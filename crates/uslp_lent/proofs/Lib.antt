@@ -1,10 +1,2 @@
-pub mod Param
-pub mod Lent
-pub mod Setter
-pub mod Setter2
-pub mod Held
-pub mod Made
-pub mod HeaderKind
-pub mod ReaderHolder
 pub mod Arms
 pub mod Back

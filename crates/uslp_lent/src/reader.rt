@@ -16,32 +16,32 @@ use uslp_primary_header::HeaderAnswer;
 use uslp_reader::FrameAnswer;
 
 // The frame that was read, or why it was refused: plain, so that it can stand beside the octets.
-#[derive(Drop)]
+#[derive(Clone, Copy)]
 pub struct FrameFound {
     pub answer: FrameAnswer,
 }
 
 // Stands on a refusal too, since no enum can hold a reference: `answer` says which it is.
-#[derive(Drop)]
+#[derive(Clone, Copy)]
 pub struct TransferFrameReader<'a> {
     pub raw: &'a [u8],
     pub found: FrameFound,
 }
 
 // The id of a spacecraft, a virtual channel or a map.
-#[derive(Drop)]
+#[derive(Clone, Copy)]
 pub enum IdAnswer {
     Done(u16),
     Refused(Refusal),
 }
 
-#[derive(Drop)]
+#[derive(Clone, Copy)]
 pub enum RoleAnswer {
     Done(SourceOrDestField),
     Refused(Refusal),
 }
 
-#[derive(Drop)]
+#[derive(Clone, Copy)]
 pub enum OcfAnswer {
     Done(OperationalControlField),
     Refused(Refusal),

@@ -8,7 +8,7 @@ use uslp_kinds::DoneAnswer;
 use uslp_primary_header::{HeaderAnswer, PrimaryHeader};
 
 // The header to leave behind the reference, and the answer.
-#[derive(Drop)]
+#[derive(Clone, Copy)]
 pub struct Decided {
     pub header: PrimaryHeader,
     pub answer: DoneAnswer,
