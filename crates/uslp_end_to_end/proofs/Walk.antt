@@ -30,7 +30,7 @@ use Rattle.uslp_hearing.specs.Hearing.{channel_of, frame_arrival, with_frame, ju
 use Rattle.uslp_hearing.specs.declared.FrameArrival.{FrameArrival}
 use Rattle.uslp_hearing.specs.declared.FrameArrival.TheVariants.{New, Repeat, Late}
 use Rattle.uslp_hearing.proofs.Ways.{channel, width, count, read_narrow, read_fits}
-use Rattle.uslp_end_to_end.specs.Many.{tally, no_frames, tally_of, plus, added_to, hearings, KeptMany, many_hearing, Small}
+use Rattle.uslp_end_to_end.specs.Many.{no_frames, tally_of, plus, added_to, hearings, KeptMany, many_hearing, Small}
 use Rattle.uslp_end_to_end.specs.declared.Tally.{Tally}
 
 -- how many frames a tally has

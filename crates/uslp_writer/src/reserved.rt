@@ -1,5 +1,6 @@
 // The writer that reserves the data area: headers and OCF first, the FECF when the data stand.
 ghost use Rattle.std.specs.Prelude.{◌≡◌, ◌+◌, ◌-◌, ◌≤◌, min, true, ◌++◌, length, take, drop};
+ghost use denote.MutBor.{as_bor};
 ghost use Rattle.uslp_octets.specs.Octets.{PartOf};
 ghost use Rattle.uslp_kinds.specs.Outcome.{done, leaving};
 ghost use Rattle.uslp_kinds.specs.Answers.{paper_length};
@@ -43,6 +44,7 @@ impl TransferFrameCreatorWithReservedData {
     }
 
     // The data area, or nothing where finishing would refuse.
+    #[tactic(auto, unfolding(crate::specs::Reserved::finish_length))]
     pub fn data(self, buf: &[u8]) -> &[u8]
         ensures { PartOf buf.entry (area_at self buf.now) (area_in self buf.now) result }
     {
@@ -58,8 +60,9 @@ impl TransferFrameCreatorWithReservedData {
     }
 
     // The data area, lent for writing, or nothing where finishing would refuse.
+    #[tactic(auto, unfolding(crate::specs::Reserved::finish_length))]
     pub fn data_mut(self, buf: &mut [u8]) -> &mut [u8]
-        ensures { PartOf buf.entry (area_at self buf.old) (area_in self buf.old) result }
+        ensures { PartOf (as_bor buf.entry) (area_at self buf.old) (area_in self buf.old) (as_bor result) }
     {
         let found = buf.len();
         match finish_len(self, found) {
@@ -74,6 +77,7 @@ impl TransferFrameCreatorWithReservedData {
 
     // Lays data over the area as far as both reach, and gives how many octets; the rest of the area stays.
     // Refuses as finishing does: TOO_LONG, FRAME_TOO_SHORT, SHORT_TARGET.
+    #[tactic(auto, unfolding(crate::specs::Reserved::finish_length))]
     pub fn fill(self, data: &[u8], buf: &mut [u8]) -> LengthAnswer
         ensures { leaving (paper_length result) buf.new ≡ filling self «data».now buf.old }
     {
@@ -89,6 +93,7 @@ impl TransferFrameCreatorWithReservedData {
     }
 
     // Writes the FECF if asked for, and gives the total. Refuses TOO_LONG, FRAME_TOO_SHORT, SHORT_TARGET.
+    #[tactic(auto, unfolding(crate::specs::Reserved::finish_length))]
     pub fn finish(self, buf: &mut [u8]) -> LengthAnswer
         ensures { leaving (paper_length result) buf.new ≡ finishing self buf.old }
     {
@@ -112,6 +117,7 @@ fn lesser(a: usize, b: usize) -> usize
 }
 
 // The total that finishing gives for a buffer of this length.
+#[tactic(auto, unfolding(crate::specs::Reserved::finish_length))]
 fn finish_len(frame: TransferFrameCreatorWithReservedData, found: usize) -> LengthAnswer
     ensures { paper_length result ≡ finish_length frame found }
 {
@@ -195,6 +201,7 @@ fn put_headers(frame: TransferFrameCreator, total: usize, buf: &mut [u8]) -> usi
 }
 
 // The header that is written in a frame of so many octets.
+#[tactic(auto, unfolding(uslp_primary_header::specs::Header::length_setting))]
 fn completed_header(frame: TransferFrameCreator, total: usize) -> PrimaryHeader
     requires { total ≤ 65536 }
     ensures { result ≡ completed frame total }
