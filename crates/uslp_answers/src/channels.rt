@@ -1,79 +1,81 @@
 // The answers about channels.
 use crate::{say, say_data, say_field, say_refusal, say_zero};
+use std::io;
+use std::io::Write;
 use uslp_hearing::{FrameArrival, HearAnswer};
 use uslp_kinds::DoneAnswer;
 use uslp_reader::TransferFrame;
 use uslp_record::{SlotState, StateAnswer, TotalAnswer, Totals};
 
-pub fn say_done(answer: DoneAnswer) {
+pub fn say_done<W: Write>(out: &mut W, answer: DoneAnswer) -> io::Result<()> {
     match answer {
-        DoneAnswer::Done => say_zero(),
-        DoneAnswer::Refused(refusal) => say_refusal(refusal),
+        DoneAnswer::Done => say_zero(out),
+        DoneAnswer::Refused(refusal) => say_refusal(out, refusal),
     }
 }
 
-pub fn say_heard(answer: HearAnswer, octets: &[u8]) {
+pub fn say_heard<W: Write>(out: &mut W, answer: HearAnswer, octets: &[u8]) -> io::Result<()> {
     match answer {
-        HearAnswer::Done(arrival) => say_arrival(arrival, octets),
-        HearAnswer::Refused(refusal) => say_refusal(refusal),
+        HearAnswer::Done(arrival) => say_arrival(out, arrival, octets),
+        HearAnswer::Refused(refusal) => say_refusal(out, refusal),
     }
 }
 
-fn say_arrival(arrival: FrameArrival, octets: &[u8]) {
+fn say_arrival<W: Write>(out: &mut W, arrival: FrameArrival, octets: &[u8]) -> io::Result<()> {
     match arrival {
-        FrameArrival::New { gap, frame } => say_new(gap, frame, octets),
-        FrameArrival::Repeat => say(b"0 REPEAT"),
-        FrameArrival::Late => say(b"0 LATE"),
+        FrameArrival::New { gap, frame } => say_new(out, gap, frame, octets),
+        FrameArrival::Repeat => say(out, b"0 REPEAT"),
+        FrameArrival::Late => say(out, b"0 LATE"),
     }
 }
 
-fn say_new(gap: u64, frame: TransferFrame, octets: &[u8]) {
-    say(b"0 NEW");
-    say_field(gap);
-    say_data(frame.data(octets));
+fn say_new<W: Write>(out: &mut W, gap: u64, frame: TransferFrame, octets: &[u8]) -> io::Result<()> {
+    say(out, b"0 NEW")?;
+    say_field(out, gap)?;
+    say_data(out, frame.data(octets))
 }
 
-pub fn say_state(answer: StateAnswer) {
+pub fn say_state<W: Write>(out: &mut W, answer: StateAnswer) -> io::Result<()> {
     match answer {
-        StateAnswer::Done(state) => say_slot(state),
-        StateAnswer::Refused(refusal) => say_refusal(refusal),
+        StateAnswer::Done(state) => say_slot(out, state),
+        StateAnswer::Refused(refusal) => say_refusal(out, refusal),
     }
 }
 
-fn say_slot(state: SlotState) {
-    say_zero();
+fn say_slot<W: Write>(out: &mut W, state: SlotState) -> io::Result<()> {
+    say_zero(out)?;
     match state {
         // no answer has a closed slot
-        SlotState::Closed => {}
+        SlotState::Closed => Ok(()),
         SlotState::Opened { channel: _, width } => {
-            say_field(width as u64);
-            say(b" unheard");
+            say_field(out, width as u64)?;
+            say(out, b" unheard")
         }
         SlotState::Heard {
             channel: _,
             width,
             totals,
         } => {
-            say_field(width as u64);
-            say_totals(totals);
+            say_field(out, width as u64)?;
+            say_totals(out, totals)
         }
     }
 }
 
-fn say_totals(totals: Totals) {
-    say_field(totals.last);
-    say_field(totals.handed_on);
-    say_field(totals.missing);
-    say_field(totals.repeats);
-    say_field(totals.late);
+fn say_totals<W: Write>(out: &mut W, totals: Totals) -> io::Result<()> {
+    say_field(out, totals.last)?;
+    say_field(out, totals.handed_on)?;
+    say_field(out, totals.missing)?;
+    say_field(out, totals.repeats)?;
+    say_field(out, totals.late)
 }
 
-pub fn say_total(answer: TotalAnswer) {
+pub fn say_total<W: Write>(out: &mut W, answer: TotalAnswer) -> io::Result<()> {
     match answer {
         TotalAnswer::Done(missing) => {
-            say_zero();
-            say_field(missing);
+            say_zero(out)?;
+            say_field(out, missing)
         }
-        TotalAnswer::Refused(refusal) => say_refusal(refusal),
+        TotalAnswer::Refused(refusal) => say_refusal(out, refusal),
     }
 }

@@ -4,6 +4,8 @@ ghost use Rattle.std.specs.Prelude.{◌≡◌, length};
 use crate::headers::{frame_of, header_of};
 use crate::values::{BUF_ROOM, BUFLEN, PID, RULE, TOTAL, Values, octet_of};
 use crate::{say_bad, say_refusal, say_written};
+use std::io;
+use std::io::Write;
 use uslp_form::Form;
 use uslp_kinds::{LengthAnswer, ProtocolIdAnswer, UslpProtocolId};
 use uslp_octets::copy_octets;
@@ -25,10 +27,10 @@ fn front(octets: &mut [u8], len: usize) -> &mut [u8] {
     &mut octets[0..0]
 }
 
-pub fn hw(values: &Values) {
+pub fn hw<W: Write>(out: &mut W, values: &Values) -> io::Result<()> {
     match whole_header(header_of(values), values[TOTAL] as usize) {
-        HeaderAnswer::Refused(refusal) => say_refusal(refusal),
-        HeaderAnswer::Done(header) => write_header(header, values[BUFLEN] as usize),
+        HeaderAnswer::Refused(refusal) => say_refusal(out, refusal),
+        HeaderAnswer::Done(header) => write_header(out, header, values[BUFLEN] as usize),
     }
 }
 
@@ -40,37 +42,41 @@ fn whole_header(header: PrimaryHeader, total: usize) -> HeaderAnswer {
     }
 }
 
-fn write_header(header: PrimaryHeader, len: usize) {
+fn write_header<W: Write>(out: &mut W, header: PrimaryHeader, len: usize) -> io::Result<()> {
     let mut room = fresh();
     let buf = front(&mut room, len);
     let answer = header.write_to_slice(buf);
-    say_written(answer, buf);
+    say_written(out, answer, buf)
 }
 
 // fw, or rw where the data area is reserved first. A rule or a protocol id that no frame has is told after all words are read.
-pub fn fw(values: &Values, data: &[u8], reserved: bool) {
+pub fn fw<W: Write>(out: &mut W, values: &Values, data: &[u8], reserved: bool) -> io::Result<()> {
     if values[RULE] > 7 {
-        say_bad(b"rule");
-        return;
+        return say_bad(out, b"rule");
     }
     match UslpProtocolId::from_number(octet_of(values[PID])) {
-        ProtocolIdAnswer::Refused(_) => say_bad(b"pid"),
-        ProtocolIdAnswer::Done(id) => {
-            write_frame(
-                frame_of(values, id),
-                data,
-                values[BUFLEN] as usize,
-                reserved,
-            );
-        }
+        ProtocolIdAnswer::Refused(_) => say_bad(out, b"pid"),
+        ProtocolIdAnswer::Done(id) => write_frame(
+            out,
+            frame_of(values, id),
+            data,
+            values[BUFLEN] as usize,
+            reserved,
+        ),
     }
 }
 
-fn write_frame(frame: TransferFrameCreator, data: &[u8], len: usize, reserved: bool) {
+fn write_frame<W: Write>(
+    out: &mut W,
+    frame: TransferFrameCreator,
+    data: &[u8],
+    len: usize,
+    reserved: bool,
+) -> io::Result<()> {
     let mut room = fresh();
     let buf = front(&mut room, len);
     let answer = written(frame, data, buf, reserved);
-    say_written(answer, buf);
+    say_written(out, answer, buf)
 }
 
 fn written(
@@ -98,17 +104,28 @@ fn fill(area: TransferFrameCreatorWithReservedData, data: &[u8], buf: &mut [u8])
     area.finish(buf)
 }
 
-pub fn save(form: Form, values: &Values, channels: ChannelRecord) {
+pub fn save<W: Write>(
+    out: &mut W,
+    form: Form,
+    values: &Values,
+    channels: ChannelRecord,
+) -> io::Result<()> {
     let mut room = fresh();
     let buf = front(&mut room, values[BUFLEN] as usize);
     let answer = uslp_saved::save(channels, form, buf);
-    say_written(answer, buf);
+    say_written(out, answer, buf)
 }
 
 // Octets of one form as octets of the other.
-pub fn convert(was: Form, becomes: Form, values: &Values, octets: &[u8]) {
+pub fn convert<W: Write>(
+    out: &mut W,
+    was: Form,
+    becomes: Form,
+    values: &Values,
+    octets: &[u8],
+) -> io::Result<()> {
     let mut room = fresh();
     let buf = front(&mut room, values[BUFLEN] as usize);
     let answer = uslp_converting::convert(was, octets, becomes, buf);
-    say_written(answer, buf);
+    say_written(out, answer, buf)
 }

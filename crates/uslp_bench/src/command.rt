@@ -3,11 +3,12 @@ use crate::Bench;
 use crate::channels::{close, hear, managed, open, restore, save, show, total};
 use crate::places::{no_values, read};
 use crate::words::{decode, next_word, part, part_mut, row_of};
-use libc::STDOUT_FILENO;
+use std::io;
+use std::io::Write;
 use uslp_answers::reading::{crc, dr, fr, hr};
 use uslp_answers::values::{HEX, Values};
 use uslp_answers::writing::{convert, fw, hw};
-use uslp_answers::{say_bad, say_zero};
+use uslp_answers::{say, say_bad, say_zero};
 use uslp_form::Form;
 use uslp_intake_answers::feed;
 use uslp_many_answers::many;
@@ -59,19 +60,30 @@ const DOWN: usize = 20;
 const NOTHING: usize = 21;
 
 // Answers the line that is held. One that is too long is no command, as an empty one.
-pub(crate) fn answer(line: &mut [u8], holding: &mut [u8], bench: Bench) -> Bench {
-    let mut next = answer_line(part_mut(line, 0, bench.held), holding, bench);
+pub(crate) fn answer<W: Write>(
+    out: &mut W,
+    line: &mut [u8],
+    holding: &mut [u8],
+    bench: Bench,
+) -> io::Result<Bench> {
+    let mut next = answer_line(out, part_mut(line, 0, bench.held), holding, bench)?;
     next.held = 0;
-    next.ended = !io::write_all(STDOUT_FILENO, b"\n");
-    next
+    say(out, b"\n")?;
+    Ok(next)
 }
 
-fn answer_line(line: &mut [u8], holding: &mut [u8], bench: Bench) -> Bench {
+fn answer_line<W: Write>(
+    out: &mut W,
+    line: &mut [u8],
+    holding: &mut [u8],
+    bench: Bench,
+) -> io::Result<Bench> {
     let mut values = no_values();
-    let command = command_in(line, &mut values);
+    let command = command_in(out, line, &mut values)?;
     let start = values[HEX] as usize;
     let digits = next_word(line, start);
     act(
+        out,
         command,
         &values,
         part_mut(line, start, digits.end),
@@ -81,7 +93,7 @@ fn answer_line(line: &mut [u8], holding: &mut [u8], bench: Bench) -> Bench {
 }
 
 // A row has a command's name and the places of its words.
-fn command_in(line: &[u8], values: &mut Values) -> usize {
+fn command_in<W: Write>(out: &mut W, line: &[u8], values: &mut Values) -> io::Result<usize> {
     let rows = b"crc hex
 hr hex
 dr hex
@@ -103,90 +115,103 @@ save2 buflen
 restore2 hex
 up buflen hex
 down buflen hex";
-    called(rows, line, values)
+    called(out, rows, line, values)
 }
 
 // The row of the command that a line calls, or nothing where its words do not fit, which is told.
-fn called(rows: &[u8], line: &[u8], values: &mut Values) -> usize {
+fn called<W: Write>(
+    out: &mut W,
+    rows: &[u8],
+    line: &[u8],
+    values: &mut Values,
+) -> io::Result<usize> {
     let word = next_word(line, 0);
     let row = row_of(part(line, word.start, word.end), rows);
     if row.number >= NOTHING {
-        say_bad(b"command");
-        return NOTHING;
+        say_bad(out, b"command")?;
+        return Ok(NOTHING);
     }
-    if read(part(rows, row.start, row.end), line, word.end, values) {
-        return row.number;
+    if read(out, part(rows, row.start, row.end), line, word.end, values)? {
+        return Ok(row.number);
     }
-    NOTHING
+    Ok(NOTHING)
 }
 
 // Octets are laid over the digits that say them.
-fn act(
+fn act<W: Write>(
+    out: &mut W,
     command: usize,
     values: &Values,
     digits: &mut [u8],
     holding: &mut [u8],
     bench: Bench,
-) -> Bench {
+) -> io::Result<Bench> {
     decode(digits);
     let n = digits.len() / 2;
     let data = part(digits, 0, n);
-    act_on_frame(command, values, data);
+    act_on_frame(out, command, values, data)?;
     let mut next = bench;
-    next.channels = act_on_channels(command, values, data, bench.channels);
-    next.in_intake = act_on_intake(command, values, data, holding, bench.in_intake);
-    next
+    next.channels = act_on_channels(out, command, values, data, bench.channels)?;
+    next.in_intake = act_on_intake(out, command, values, data, holding, bench.in_intake)?;
+    Ok(next)
 }
 
-fn act_on_frame(command: usize, values: &Values, data: &[u8]) {
+fn act_on_frame<W: Write>(
+    out: &mut W,
+    command: usize,
+    values: &Values,
+    data: &[u8],
+) -> io::Result<()> {
     match command {
-        CRC => crc(data),
-        HR => hr(data),
-        DR => dr(data),
-        FR => fr(data, managed(values)),
-        HW => hw(values),
-        FW => fw(values, data, false),
-        RW => fw(values, data, true),
-        UP => convert(Form::One, Form::Two, values, data),
-        DOWN => convert(Form::Two, Form::One, values, data),
-        _ => {}
+        CRC => crc(out, data),
+        HR => hr(out, data),
+        DR => dr(out, data),
+        FR => fr(out, data, managed(values)),
+        HW => hw(out, values),
+        FW => fw(out, values, data, false),
+        RW => fw(out, values, data, true),
+        UP => convert(out, Form::One, Form::Two, values, data),
+        DOWN => convert(out, Form::Two, Form::One, values, data),
+        _ => Ok(()),
     }
 }
 
-fn act_on_channels(
+fn act_on_channels<W: Write>(
+    out: &mut W,
     command: usize,
     values: &Values,
     data: &[u8],
     channels: ChannelRecord,
-) -> ChannelRecord {
+) -> io::Result<ChannelRecord> {
     match command {
-        OPEN => open(values, channels),
-        CLOSE => close(values, channels),
-        HEAR => hear(values, data, channels),
-        SHOW => show(values, channels),
-        TOTAL => total(channels),
-        SAVE => save(Form::One, values, channels),
-        RESTORE => restore(Form::One, data, channels),
-        SAVE2 => save(Form::Two, values, channels),
-        RESTORE2 => restore(Form::Two, data, channels),
-        MANY => many(data, managed(values), channels),
-        _ => channels,
+        OPEN => open(out, values, channels),
+        CLOSE => close(out, values, channels),
+        HEAR => hear(out, values, data, channels),
+        SHOW => show(out, values, channels),
+        TOTAL => total(out, channels),
+        SAVE => save(out, Form::One, values, channels),
+        RESTORE => restore(out, Form::One, data, channels),
+        SAVE2 => save(out, Form::Two, values, channels),
+        RESTORE2 => restore(out, Form::Two, data, channels),
+        MANY => many(out, data, managed(values), channels),
+        _ => Ok(channels),
     }
 }
 
-fn act_on_intake(
+fn act_on_intake<W: Write>(
+    out: &mut W,
     command: usize,
     values: &Values,
     data: &[u8],
     holding: &mut [u8],
     held: usize,
-) -> usize {
+) -> io::Result<usize> {
     match command {
-        FEED => feed(holding, held, data, managed(values)),
+        FEED => feed(out, holding, held, data, managed(values)),
         DROP => {
-            say_zero();
-            0
+            say_zero(out)?;
+            Ok(0)
         }
-        _ => held,
+        _ => Ok(held),
     }
 }

@@ -2,7 +2,8 @@
 #![tactic(auto)]
 
 use command::answer;
-use libc::STDIN_FILENO;
+use std::io;
+use std::io::{BufWriter, Read, Write};
 use uslp_kinds::MAX_FRAME_LEN;
 use uslp_record::ChannelRecord;
 
@@ -13,70 +14,76 @@ mod words;
 
 const LINE_ROOM: usize = 300000;
 
+// So many octets are read at once.
+const BLOCK: usize = 65536;
+
 type Line = [u8; LINE_ROOM];
 
 type Holding = [u8; MAX_FRAME_LEN];
 
 // What is kept from one line to the next.
-#[derive(Drop)]
+#[derive(Clone, Copy)]
 struct Bench {
     channels: ChannelRecord,
     // How many octets the intake holds, at the front of the holding buffer.
     in_intake: usize,
     // How many characters of the next line have come; more than its room if it is too long.
     held: usize,
-    // The input has ended, or no answer can be written any more.
-    ended: bool,
 }
 
-// Answers standard input to its end. A proved loop has to end too: the turns count down from a number that no run uses up.
-pub fn run() {
+// Answers standard input to its end. The answers to a block are out before the next is waited for.
+pub fn run<R: Input + Print + Alloc>(rt: &R) -> io::Result<()> {
+    let mut input = rt.reader();
+    let mut out = BufWriter::new(rt.alloc(), io::writer(rt))?;
+    let mut block = [0u8; BLOCK];
     let mut line = [0u8; LINE_ROOM];
     let mut holding = [0u8; MAX_FRAME_LEN];
     let mut bench = Bench {
         channels: ChannelRecord::new(),
         in_intake: 0,
         held: 0,
-        ended: false,
     };
-    let mut turns = u64::MAX;
-    while turns > 0 && !bench.ended {
-        bench = answer_block(bench, &mut line, &mut holding);
-        turns -= 1;
+    for _ in 0..u64::MAX {
+        let n = input.read(&mut block)?;
+        if n == 0 {
+            break;
+        }
+        bench = answer_lines(&mut out, &block[..n], bench, &mut line, &mut holding)?;
+        out.flush()?;
     }
-}
-
-fn answer_block(bench: Bench, line: &mut Line, holding: &mut Holding) -> Bench {
-    let mut block = io::large_buffer();
-    let n = io::count(libc::read(STDIN_FILENO, &mut block), &block);
-    if n == 0 {
-        return answer_last(bench, line, holding);
-    }
-    answer_lines(&block[..n], bench, line, holding)
+    answer_last(&mut out, bench, &mut line, &mut holding)?;
+    out.flush()
 }
 
 // What stands behind the last line feed is a line too.
-fn answer_last(bench: Bench, line: &mut Line, holding: &mut Holding) -> Bench {
-    let mut last = bench;
+fn answer_last<W: Write>(
+    out: &mut W,
+    bench: Bench,
+    line: &mut Line,
+    holding: &mut Holding,
+) -> io::Result<()> {
     if bench.held > 0 {
-        last = answer(line, holding, bench);
+        answer(out, line, holding, bench)?;
     }
-    last.ended = true;
-    last
+    Ok(())
 }
 
-fn answer_lines(block: &[u8], bench: Bench, line: &mut Line, holding: &mut Holding) -> Bench {
+fn answer_lines<W: Write>(
+    out: &mut W,
+    block: &[u8],
+    bench: Bench,
+    line: &mut Line,
+    holding: &mut Holding,
+) -> io::Result<Bench> {
     let mut now = bench;
-    let mut i: usize = 0;
-    while i < block.len() {
-        if block[i] == b'\n' {
-            now = answer(line, holding, now);
+    for c in block {
+        if *c == b'\n' {
+            now = answer(out, line, holding, now)?;
         } else {
-            now.held = keep(block[i], line, now.held);
+            now.held = keep(*c, line, now.held);
         }
-        i += 1;
     }
-    now
+    Ok(now)
 }
 
 fn keep(c: u8, line: &mut [u8], held: usize) -> usize {

@@ -1,6 +1,7 @@
 // The places of a command's words, and what fits each.
 use crate::words::{Number, decimal_in, index_of, is_hex, next_word, part};
-use check::same;
+use std::io;
+use std::io::Write;
 use uslp_answers::say_bad;
 use uslp_answers::values::{
     BUF_ROOM, BUFLEN, BYPASS, DEST, END, FECF, HEX, NONE, OCF, OCF_FLAG, PCC, PLACES, PTR, SCID,
@@ -16,41 +17,57 @@ pub(crate) fn no_values() -> Values {
 }
 
 // Whether the words of a line from here on fit the places named. The first that does not is told.
-pub(crate) fn read(places: &[u8], line: &[u8], from: usize, values: &mut Values) -> bool {
+pub(crate) fn read<W: Write>(
+    out: &mut W,
+    places: &[u8],
+    line: &[u8],
+    from: usize,
+    values: &mut Values,
+) -> io::Result<bool> {
     let mut named: usize = 0;
     let mut behind = from;
-    let mut turn: usize = 0;
-    while turn < PLACES {
+    for _ in 0..PLACES {
         let name = next_word(places, named);
         let word = next_word(line, behind);
         named = name.end;
         behind = word.end;
         let place = part(places, name.start, named);
-        if !read_word(place, part(line, word.start, behind), word.start, values) {
-            return false;
+        if !read_word(
+            out,
+            place,
+            part(line, word.start, behind),
+            word.start,
+            values,
+        )? {
+            return Ok(false);
         }
-        turn += 1;
     }
-    true
+    Ok(true)
 }
 
-fn read_word(name: &[u8], word: &[u8], at: usize, values: &mut Values) -> bool {
+fn read_word<W: Write>(
+    out: &mut W,
+    name: &[u8],
+    word: &[u8],
+    at: usize,
+    values: &mut Values,
+) -> io::Result<bool> {
     let place = index_of(name, &NAMES);
     let Number::Is(value) = value_in(place, word, at) else {
-        complain(name, word);
-        return false;
+        complain(out, name, word)?;
+        return Ok(false);
     };
     if place < PLACES {
         values[place] = value;
     }
-    true
+    Ok(true)
 }
 
-fn complain(name: &[u8], word: &[u8]) {
+fn complain<W: Write>(out: &mut W, name: &[u8], word: &[u8]) -> io::Result<()> {
     if name.len() == 0 || word.len() == 0 {
-        say_bad(b"arguments");
+        say_bad(out, b"arguments")
     } else {
-        say_bad(name);
+        say_bad(out, name)
     }
 }
 
@@ -88,17 +105,21 @@ fn number_up_to(word: &[u8], limit: u64) -> Number {
 }
 
 fn optional_up_to(word: &[u8], limit: u64) -> Number {
-    if same(word, b"-") {
+    if is_dash(word) {
         return Number::Is(NONE);
     }
     number_up_to(word, limit)
 }
 
 fn octets_at(word: &[u8], at: usize) -> Number {
-    if same(word, b"-") || is_hex(word) {
+    if is_dash(word) || is_hex(word) {
         return Number::Is(at as u64);
     }
     Number::Not
+}
+
+fn is_dash(word: &[u8]) -> bool {
+    word == b"-"
 }
 
 fn nothing_in(word: &[u8]) -> Number {

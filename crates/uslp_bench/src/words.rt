@@ -1,9 +1,6 @@
 // Words of a text, and what they make: numbers, octets, the place of a name in a list.
 ghost use Rattle.std.specs.Prelude.{◌≤◌};
 
-use bytes::scan::find;
-use check::same;
-
 // Where a word stands; it is empty where the text has no more.
 #[derive(Drop)]
 pub(crate) struct Word {
@@ -27,14 +24,12 @@ pub(crate) fn next_word(text: &[u8], from: usize) -> Word {
 
 // The place behind the blanks that stand from here on, or behind what is none.
 fn skip(text: &[u8], from: usize, blanks: bool) -> usize {
-    let mut i = from;
-    while i < text.len() {
+    for i in from..text.len() {
         if is_blank(text[i]) != blanks {
             return i;
         }
-        i += 1;
     }
-    i
+    from.max(text.len())
 }
 
 fn is_blank(c: u8) -> bool {
@@ -66,16 +61,14 @@ pub(crate) fn part_mut(octets: &mut [u8], start: usize, end: usize) -> &mut [u8]
 // Which of a text's words this is; the number of them for an empty one.
 pub(crate) fn index_of(word: &[u8], names: &[u8]) -> usize {
     let mut behind: usize = 0;
-    let mut n: usize = 0;
-    while n < names.len() {
+    for n in 0..names.len() {
         let name = next_word(names, behind);
-        if same(word, part(names, name.start, name.end)) {
+        if word == part(names, name.start, name.end) {
             return n;
         }
         behind = name.end;
-        n += 1;
     }
-    n
+    names.len()
 }
 
 // A row of a table, from behind its first word on.
@@ -89,28 +82,28 @@ pub(crate) struct Row {
 // The row that begins with a name; its number is no less than that of all rows where there is none.
 pub(crate) fn row_of(name: &[u8], rows: &[u8]) -> Row {
     let mut end: usize = 0;
-    let mut number: usize = 0;
-    while number < rows.len() {
+    for number in 0..rows.len() {
         let word = next_word(rows, end);
         let start = word.end;
         end = line_end(rows, start);
-        if same(name, part(rows, word.start, start)) {
+        if name == part(rows, word.start, start) {
             return Row { number, start, end };
         }
-        number += 1;
     }
     Row {
-        number,
+        number: rows.len(),
         start: end,
         end,
     }
 }
 
 fn line_end(text: &[u8], from: usize) -> usize {
-    if from > text.len() {
-        return from;
+    for i in from..text.len() {
+        if text[i] == b'\n' {
+            return i;
+        }
     }
-    find(text, from, text.len(), b'\n')
+    from.max(text.len())
 }
 
 pub(crate) fn decimal_in(word: &[u8]) -> Number {
@@ -118,9 +111,8 @@ pub(crate) fn decimal_in(word: &[u8]) -> Number {
         return Number::Not;
     }
     let mut value: u64 = 0;
-    let mut i: usize = 0;
-    while i < word.len() {
-        let digit = digit_in(word[i]) as u64;
+    for c in word {
+        let digit = digit_in(*c) as u64;
         if digit > 9 {
             return Number::Not;
         }
@@ -128,7 +120,6 @@ pub(crate) fn decimal_in(word: &[u8]) -> Number {
             return Number::Not;
         }
         value = value * 10 + digit;
-        i += 1;
     }
     Number::Is(value)
 }
@@ -148,12 +139,10 @@ pub(crate) fn is_hex(word: &[u8]) -> bool {
     if word.len() == 0 {
         return false;
     }
-    let mut i: usize = 0;
-    while i < word.len() {
-        if digit_in(word[i]) > 15 {
+    for c in word {
+        if digit_in(*c) > 15 {
             return false;
         }
-        i += 1;
     }
     word.len() % 2 == 0
 }
@@ -161,10 +150,8 @@ pub(crate) fn is_hex(word: &[u8]) -> bool {
 // Lays the octets that hex digits make over their front.
 pub(crate) fn decode(digits: &mut [u8]) {
     let n = digits.len() / 2;
-    let mut i: usize = 0;
-    while i < n {
+    for i in 0..n {
         digits[i] = octet_in(digits[2 * i], digits[2 * i + 1]);
-        i += 1;
     }
 }
 

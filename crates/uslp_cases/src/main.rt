@@ -1,6 +1,7 @@
 // Runs the cases that are not proved as theorems, and prints what each answers: the refusal's number, or 0.
 #![tactic(auto)]
 
+use std::io;
 use uslp_data_field_header::TransferFrameDataFieldHeader;
 use uslp_kinds::{
     BypassSequenceControlFlag, ConstructionRule, FhpOrLvo, LengthAnswer, ManagedParameters,
@@ -11,46 +12,48 @@ use uslp_primary_header::{HeaderAnswer, PrimaryHeader};
 use uslp_reader::{FrameAnswer, TransferFrame};
 use uslp_writer::TransferFrameCreator;
 
-fn main() {
-    sum(b"words ", uslp_checksum::checksum(b"123456789"));
+fn main(rt: HostRuntime) -> io::Result<()> {
+    cases(&rt)
+}
+
+fn cases(rt: &impl Print) -> io::Result<()> {
+    sum(rt, "words", uslp_checksum::checksum(b"123456789"))?;
     sum(
-        b"table ",
+        rt,
+        "table",
         uslp_checksum::update_by_table(0xFFFF, b"123456789"),
-    );
-    sum(b"bitwise ", uslp_checksum::checksum_bitwise(b"123456789"));
+    )?;
+    sum(rt, "bitwise", uslp_checksum::checksum_bitwise(b"123456789"))?;
     let b1 = [
         0xB1u8, 0x23, 0x48, 0xA6, 0x00, 0x0A, 0x01, 0x07, 0xE4, 0x0A, 0xF0,
     ];
-    read(b"first octet B1", &b1, NO_FECF);
+    read(rt, "first octet B1", &b1, NO_FECF)?;
     let short = [
         0xC1u8, 0x23, 0x48, 0xA6, 0x00, 0x08, 0x01, 0x07, 0xE4, 0x0A, 0xF0,
     ];
-    read(b"length octets 00 08", &short, NO_FECF);
-    read(b"length octets 00 08, FECF asked for", &short, WITH_FECF);
-    write(b"65528 octets of data", 65528);
-    write(b"65529 octets of data", 65529);
-    count(b"width 7, count 2^56 - 1", 0x00FF_FFFF_FFFF_FFFF);
-    count(b"width 7, count 2^56", 0x0100_0000_0000_0000);
+    read(rt, "length octets 00 08", &short, NO_FECF)?;
+    read(rt, "length octets 00 08, FECF asked for", &short, WITH_FECF)?;
+    write(rt, "65528 octets of data", 65528)?;
+    write(rt, "65529 octets of data", 65529)?;
+    count(rt, "width 7, count 2^56 - 1", 0x00FF_FFFF_FFFF_FFFF)?;
+    count(rt, "width 7, count 2^56", 0x0100_0000_0000_0000)
 }
 
-fn say(what: &[u8], answer: u8) {
-    io::write_all(1, what);
-    io::write_all(1, b": ");
-    io::print_decimal(1, answer as u64);
+fn say(rt: &impl Print, what: &str, answer: u8) -> io::Result<()> {
+    print!(rt; "{what}: {answer}")
 }
 
-fn read(what: &[u8], octets: &[u8], managed: ManagedParameters) {
+fn read(rt: &impl Print, what: &str, octets: &[u8], managed: ManagedParameters) -> io::Result<()> {
     match TransferFrame::from_bytes(octets, managed) {
         FrameAnswer::Done(frame) => {
-            say(what, 0);
-            io::write_all(1, b", data ");
-            io::print_decimal(1, frame.data_len as u64);
+            say(rt, what, 0)?;
+            println!(rt; ", data {}", frame.data_len)
         }
         FrameAnswer::Refused(refusal) => {
-            say(what, refusal.number());
+            say(rt, what, refusal.number())?;
+            println!(rt; "")
         }
     }
-    io::write_all(1, b"\n");
 }
 
 // Width 0, rule 7, no OCF or FECF.
@@ -69,7 +72,7 @@ fn header() -> PrimaryHeader {
     }
 }
 
-fn write(what: &[u8], len: usize) {
+fn write(rt: &impl Print, what: &str, len: usize) -> io::Result<()> {
     let frame = TransferFrameCreator {
         primary_header: header(),
         data_field_header: TransferFrameDataFieldHeader {
@@ -85,41 +88,25 @@ fn write(what: &[u8], len: usize) {
     if len <= 65529 {
         match frame.write_to_slice(&data[0..len], &mut buf) {
             LengthAnswer::Done(total) => {
-                say(what, 0);
-                io::write_all(1, b", total ");
-                io::print_decimal(1, total as u64);
+                say(rt, what, 0)?;
+                print!(rt; ", total {total}")?;
             }
-            LengthAnswer::Refused(refusal) => {
-                say(what, refusal.number());
-            }
+            LengthAnswer::Refused(refusal) => say(rt, what, refusal.number())?,
         }
-        io::write_all(1, b", length octets ");
-        octet(buf[4]);
-        io::write_all(1, b" ");
-        octet(buf[5]);
-        io::write_all(1, b"\n");
+        println!(rt; ", length octets {:02x} {:02x}", buf[4], buf[5])?;
     }
+    Ok(())
 }
 
-fn octet(value: u8) {
-    io::print_hex(1, value as u64, 2);
-}
-
-fn count(what: &[u8], value: u64) {
+fn count(rt: &impl Print, what: &str, value: u64) -> io::Result<()> {
     match header().with_vc_frame_count(7, value) {
-        HeaderAnswer::Done(_) => {
-            say(what, 0);
-        }
-        HeaderAnswer::Refused(refusal) => {
-            say(what, refusal.number());
-        }
+        HeaderAnswer::Done(_) => say(rt, what, 0)?,
+        HeaderAnswer::Refused(refusal) => say(rt, what, refusal.number())?,
     }
-    io::write_all(1, b"\n");
+    println!(rt; "")
 }
 
 // The name of a form, and its value as four hexadecimal digits.
-fn sum(form: &[u8], value: u16) {
-    io::write_all(1, form);
-    io::print_hex(1, value as u64, 4);
-    io::write_all(1, b"\n");
+fn sum(rt: &impl Print, form: &str, value: u16) -> io::Result<()> {
+    println!(rt; "{form} {value:04x}")
 }

@@ -1,9 +1,11 @@
 // What the bench says of frames heard in one call, and the record after it.
 #![tactic(auto)]
 
-ghost use Rattle.std.specs.Prelude.{◌≡◌};
+ghost use Rattle.std.specs.Prelude.{◌≡◌, IfOk};
 ghost use Rattle.uslp_end_to_end.specs.Many.{many_hearing};
 
+use std::io;
+use std::io::Write;
 use uslp_answers::channels::say_done;
 use uslp_answers::{say, say_field, say_zero};
 use uslp_end_to_end::{Tally, hear_many};
@@ -11,30 +13,35 @@ use uslp_kinds::{DoneAnswer, ManagedParameters};
 use uslp_record::ChannelRecord;
 
 // The place reached, the tally, and why the call stopped there.
-pub fn many(octets: &[u8], managed: ManagedParameters, channels: ChannelRecord) -> ChannelRecord
-    ensures { result ≡ (many_hearing channels octets.now managed).next }
+pub fn many<W: Write>(
+    out: &mut W,
+    octets: &[u8],
+    managed: ManagedParameters,
+    channels: ChannelRecord,
+) -> io::Result<ChannelRecord>
+    ensures { IfOk result (λ next. next ≡ (many_hearing channels octets.now managed).next) }
 {
     let hearing = hear_many(channels, octets, managed);
     let tally = hearing.tally;
     let stop = hearing.stop;
-    say_zero();
-    say_field(hearing.place as u64);
-    say_tally(tally);
-    say_stop(stop);
-    hearing.next
+    say_zero(out)?;
+    say_field(out, hearing.place as u64)?;
+    say_tally(out, tally)?;
+    say_stop(out, stop)?;
+    Ok(hearing.next)
 }
 
-fn say_tally(tally: Tally) {
-    say_field(tally.new);
-    say_field(tally.missing);
-    say_field(tally.repeats);
-    say_field(tally.late);
-    say_field(tally.not_open);
-    say_field(tally.other_width);
-    say_field(tally.total_full);
+fn say_tally<W: Write>(out: &mut W, tally: Tally) -> io::Result<()> {
+    say_field(out, tally.new)?;
+    say_field(out, tally.missing)?;
+    say_field(out, tally.repeats)?;
+    say_field(out, tally.late)?;
+    say_field(out, tally.not_open)?;
+    say_field(out, tally.other_width)?;
+    say_field(out, tally.total_full)
 }
 
-fn say_stop(stop: DoneAnswer) {
-    say(b" ");
-    say_done(stop);
+fn say_stop<W: Write>(out: &mut W, stop: DoneAnswer) -> io::Result<()> {
+    say(out, b" ")?;
+    say_done(out, stop)
 }

@@ -1,6 +1,8 @@
 // Reads commands from standard input, one to a line, and prints one answer line for each.
 #![tactic(auto)]
 
-fn main() {
-    uslp_bench::run();
+use std::io;
+
+fn main(rt: HostRuntime) -> io::Result<()> {
+    uslp_bench::run(&rt)
 }

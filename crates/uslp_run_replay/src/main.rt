@@ -1,6 +1,8 @@
 // Answers commands whose expected answers are the Rust's own.
 #![tactic(auto)]
 
-fn main() {
-    uslp_bench::run();
+use std::io;
+
+fn main(rt: HostRuntime) -> io::Result<()> {
+    uslp_bench::run(&rt)
 }

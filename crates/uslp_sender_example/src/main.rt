@@ -1,6 +1,7 @@
 // A sender: two octets of mass, as a frame, to standard output.
 #![tactic(auto)]
 
+use std::io;
 use uslp_data_field_header::TransferFrameDataFieldHeader;
 use uslp_kinds::{
     ConstructionRule, FhpOrLvo, LengthAnswer, OperationalControlField, SourceOrDestField,
@@ -32,18 +33,17 @@ fn send(reading: &[u8], count: u64, buf: &mut [u8]) -> LengthAnswer {
     frame.write_to_slice(reading, buf)
 }
 
-fn main() {
+fn main(rt: HostRuntime) -> io::Result<()> {
     let mut buf = [0u8; 64];
     match send(b"\x0A\xF0", 7, &mut buf) {
-        LengthAnswer::Done(total) => put(&buf, total),
-        LengthAnswer::Refused(refusal) => {
-            io::print_decimal(2, refusal.number() as u64);
-        }
+        LengthAnswer::Done(total) => put(&rt, &buf, total),
+        LengthAnswer::Refused(refusal) => eprint!(rt; "{}", refusal.number()),
     }
 }
 
-fn put(buf: &[u8], total: usize) {
+fn put(rt: &impl Print, buf: &[u8], total: usize) -> io::Result<()> {
     if total <= buf.len() {
-        io::write_all(1, &buf[0..total]);
+        return rt.write_all(&buf[0..total]);
     }
+    Ok(())
 }

@@ -1,6 +1,7 @@
 // A pass shared both ways: handed over to consoles not yet updated, which read and write form 1, and taken back from them.
 #![tactic(auto)]
 
+use std::io;
 use uslp_converting::convert;
 use uslp_end_to_end::hear_many;
 use uslp_form::Form;
@@ -19,7 +20,7 @@ fn for_old(channels: ChannelRecord, octets: &mut [u8]) -> LengthAnswer {
 }
 
 // The record that a console not yet updated saved, in place of this one, which stays on a refusal.
-fn from_old(channels: ChannelRecord, octets: &[u8]) -> ChannelRecord {
+fn from_old(rt: &impl Print, channels: ChannelRecord, octets: &[u8]) -> io::Result<ChannelRecord> {
     let mut saved = [0u8; MAX_FORM_LEN];
     let length = convert(Form::One, octets, Form::Two, &mut saved);
     match length {
@@ -27,50 +28,50 @@ fn from_old(channels: ChannelRecord, octets: &[u8]) -> ChannelRecord {
             let restored = restore(channels, Form::Two, written(length, &saved));
             let answer = restored.answer;
             match answer {
-                DoneAnswer::Done => say(b"taken back, octets in form 2: ", n as u64),
-                DoneAnswer::Refused(refusal) => say(b"refused: ", refusal.number() as u64),
+                DoneAnswer::Done => say(rt, "taken back, octets in form 2: ", n as u64)?,
+                DoneAnswer::Refused(refusal) => say(rt, "refused: ", refusal.number() as u64)?,
             }
-            restored.next
+            Ok(restored.next)
         }
         LengthAnswer::Refused(refusal) => {
-            say(b"refused: ", refusal.number() as u64);
-            channels
+            say(rt, "refused: ", refusal.number() as u64)?;
+            Ok(channels)
         }
     }
 }
 
 // There and back, into an empty record: what is known then came over both conversions.
-fn share(channels: ChannelRecord) -> ChannelRecord {
+fn share(rt: &impl Print, channels: ChannelRecord) -> io::Result<ChannelRecord> {
     let mut octets = [0u8; MAX_FORM_LEN];
     let length = for_old(channels, &mut octets);
     match length {
         LengthAnswer::Done(n) => {
-            say(b"handed over, octets in form 1: ", n as u64);
-            from_old(ChannelRecord::new(), written(length, &octets))
+            say(rt, "handed over, octets in form 1: ", n as u64)?;
+            from_old(rt, ChannelRecord::new(), written(length, &octets))
         }
         LengthAnswer::Refused(refusal) => {
-            say(b"refused: ", refusal.number() as u64);
-            channels
+            say(rt, "refused: ", refusal.number() as u64)?;
+            Ok(channels)
         }
     }
 }
 
 // For updated consoles alone: form 2 has the flag.
-fn keep(channels: ChannelRecord) {
+fn keep(rt: &impl Print, channels: ChannelRecord) -> io::Result<()> {
     let mut saved = [0u8; MAX_FORM_LEN];
     match save(channels, Form::Two, &mut saved) {
-        LengthAnswer::Done(n) => say(b"saved, octets in form 2: ", n as u64),
-        LengthAnswer::Refused(refusal) => say(b"refused: ", refusal.number() as u64),
+        LengthAnswer::Done(n) => say(rt, "saved, octets in form 2: ", n as u64),
+        LengthAnswer::Refused(refusal) => say(rt, "refused: ", refusal.number() as u64),
     }
 }
 
 // Frames end to end: how many are new, and how many never came before them.
-fn take(channels: ChannelRecord, pass: &[u8]) -> ChannelRecord {
+fn take(rt: &impl Print, channels: ChannelRecord, pass: &[u8]) -> io::Result<ChannelRecord> {
     let heard = hear_many(channels, pass, NO_FECF);
     let tally = heard.tally;
-    say(b"new in the pass: ", tally.new);
-    say(b"missing before them: ", tally.missing);
-    heard.next
+    say(rt, "new in the pass: ", tally.new)?;
+    say(rt, "missing before them: ", tally.missing)?;
+    Ok(heard.next)
 }
 
 // Channel 5 of spacecraft 0x1234, for one of the two flags, each counted apart.
@@ -86,29 +87,40 @@ fn open(channels: ChannelRecord, flag: BypassSequenceControlFlag) -> ChannelReco
     opened.next
 }
 
-fn main() {
+fn main(rt: HostRuntime) -> io::Result<()> {
+    share_all(&rt)
+}
+
+fn share_all(rt: &impl Print) -> io::Result<()> {
     let mut channels = open(
         ChannelRecord::new(),
         BypassSequenceControlFlag::SequenceControlledQoS,
     );
     channels = take(
+        rt,
         channels,
         b"\xC1\x23\x48\xA6\x00\x0A\x01\x07\xE4\x0A\xF0\xC1\x23\x48\xA6\x00\x0A\x01\x0B\xE4\x0A\xF3",
-    );
-    channels = share(channels);
-    channels = take(channels, b"\xC1\x23\x48\xA6\x00\x0A\x01\x0D\xE4\x0A\xF5");
+    )?;
+    channels = share(rt, channels)?;
+    channels = take(
+        rt,
+        channels,
+        b"\xC1\x23\x48\xA6\x00\x0A\x01\x0D\xE4\x0A\xF5",
+    )?;
     match channels.total_missing() {
-        TotalAnswer::Done(missing) => say(b"missing in all: ", missing),
-        TotalAnswer::Refused(refusal) => say(b"refused: ", refusal.number() as u64),
+        TotalAnswer::Done(missing) => say(rt, "missing in all: ", missing)?,
+        TotalAnswer::Refused(refusal) => say(rt, "refused: ", refusal.number() as u64)?,
     }
     channels = open(channels, BypassSequenceControlFlag::ExpeditedQoS);
-    channels = take(channels, b"\xC1\x23\x48\xA6\x00\x0A\x81\x00\xE4\x0A\xF6");
-    channels = share(channels);
-    keep(channels);
+    channels = take(
+        rt,
+        channels,
+        b"\xC1\x23\x48\xA6\x00\x0A\x81\x00\xE4\x0A\xF6",
+    )?;
+    channels = share(rt, channels)?;
+    keep(rt, channels)
 }
 
-fn say(what: &[u8], number: u64) {
-    io::write_all(1, what);
-    io::print_decimal(1, number);
-    io::write_all(1, b"\n");
+fn say(rt: &impl Print, what: &str, number: u64) -> io::Result<()> {
+    println!(rt; "{what}{number}")
 }
