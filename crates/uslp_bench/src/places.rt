@@ -105,21 +105,17 @@ fn number_up_to(word: &[u8], limit: u64) -> Number {
 }
 
 fn optional_up_to(word: &[u8], limit: u64) -> Number {
-    if is_dash(word) {
+    if word == b"-".as_slice() {
         return Number::Is(NONE);
     }
     number_up_to(word, limit)
 }
 
 fn octets_at(word: &[u8], at: usize) -> Number {
-    if is_dash(word) || is_hex(word) {
+    if word == b"-".as_slice() || is_hex(word) {
         return Number::Is(at as u64);
     }
     Number::Not
-}
-
-fn is_dash(word: &[u8]) -> bool {
-    word == b"-"
 }
 
 fn nothing_in(word: &[u8]) -> Number {
