@@ -69,6 +69,7 @@ impl IntakeAnswer {
 
 // Takes octets of the block behind those held, up to the one that decides; what is left of the block is to be offered again.
 // Refuses BAD_FIELD for a held number above MAX_FRAME_LEN, then SHORT_TARGET for a holding buffer below it.
+#[tactic(auto, unfolding(crate::specs::Intake::intaking))]
 pub fn take_block(
     holding: &mut [u8],
     held: usize,

@@ -8,7 +8,6 @@ use native.Mathlib.Decide.{dec_lt}
 use lib.ListN.{length, get_or, replicate, length-append, get_or-append}
 use lib.Seq.{get_or-append-add}
 use Rattle.uslp_record.specs.Slots.{state_holds, slot_of, state_at}
-use Rattle.uslp_record.specs.declared.Channel.{Channel}
 use Rattle.uslp_record.specs.declared.SlotState.{SlotState}
 use Rattle.uslp_record.specs.declared.SlotState.TheVariants.{Closed}
 use Rattle.uslp_record.specs.declared.Slot.{Slot}
