@@ -25,7 +25,7 @@ use Rattle.uslp_intake.proofs.Steps.{intaking_done}
 use Rattle.uslp_cutting.specs.Offering as cutting
 use Rattle.uslp_intake.proofs.Calls.{takes_least, takes_none, wait_short}
 use Rattle.uslp_cutting.proofs.Calls.{frame_whole}
-use Rattle.uslp_demands.specs.Promise.{Function, function, at, Allows, Settles}
+use Rattle.uslp_demands.specs.Promise.{Function, function, at, at_mut, Allows, Settles}
 use Rattle.uslp_demands.proofs.Alike.{alike}
 
 -- the functions, each with its promise
@@ -65,7 +65,7 @@ take_block_settles = record {
 
 -- the promise allows this answer, and these octets of the holding buffer after it
 abbrev pub Takes : List ℕ → ℕ → List ℕ → ManagedParameters → IntakeAnswer → List ℕ → Type 0
-Takes s held block managed a left = Allows fn_take_block ([], ([], tt)) (at s, (held, (at block, (managed, tt)))) (a, (left, (tt, (tt, (tt, tt)))))
+Takes s held block managed a left = Allows fn_take_block ([], ([], tt)) (at_mut s, (held, (at block, (managed, tt)))) (a, (left, (tt, (tt, (tt, tt)))))
 
 module _ (s : List ℕ) (held : ℕ) (block : List ℕ) (managed : ManagedParameters) (a : IntakeAnswer) (left : List ℕ) (e : Takes s held block managed a left) where
   -- taking the whole block: where octets of its front decide, no more than these are taken
