@@ -15,11 +15,11 @@ use Rattle.uslp_cutting.proofs.Cutting.{from_nothing}
 use Rattle.uslp_record.specs.declared.Channel.{Channel}
 use Rattle.uslp_record.specs.declared.ChannelRecord.{ChannelRecord}
 use Rattle.uslp_hearing.specs.Hearing.{Naming}
-use Rattle.uslp_counting.specs.History.{Hearer, Call, Handing, called, run, handed, Unfilled, singly, Sender, Event}
+use Rattle.uslp_counting.specs.History.{Hearer, Call, Handing, called, run, handed, Unfilled, Sender, Event}
 use Rattle.uslp_counting.specs.Blocks.{as_they_come}
 use Rattle.uslp_counting.specs.Restarts.{Leads, Demand3Over}
 use Rattle.uslp_counting.specs.Restarts.Leads.{ends as leads_end, next as leads_next, restart as leads_restart_mod}
-use Rattle.uslp_counting.specs.Live.{Doing, takes, calls, blocks_in, calls_in, Live, LiveRun, Demand3Live}
+use Rattle.uslp_counting.specs.Live.{Doing, takes, blocks_in, calls_in, Live, LiveRun, Demand3Live}
 use Rattle.uslp_counting.specs.Live.Live.{no_more, other, waits_on, gives_out, stops_at, is_refused}
 use Rattle.uslp_counting.specs.Live.LiveRun.{ends, leg, restart}
 use Rattle.uslp_counting.proofs.Singly.{run_singly, handed_singly, unfilled_singly}

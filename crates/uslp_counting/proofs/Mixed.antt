@@ -3,7 +3,7 @@
 use mathlib.Core.Path.{◌≡◌, refl, sym, ◌∙◌, ap, subst}
 use mathlib.Core.Bool.{false}
 use mathlib.Core.List.{List, [], ◌∷◌, ◌++◌}
-use Prim.Native.Nat.{ℕ, ◌-◌, ◌<◌}
+use Prim.Native.Nat.{ℕ}
 use native.Mathlib.Omega.{arith}
 use lib.Dec.{lit<}
 use lib.ListN.{set}
@@ -26,7 +26,6 @@ use Rattle.uslp_form.specs.Form.{says_all, RecordSaid, insert, sorted, restored}
 use Rattle.uslp_form.specs.declared.Form.TheVariants.{One}
 use Rattle.uslp_form.proofs.Trips.{entries_of}
 use Rattle.uslp_hearing.specs.Hearing.{channel_of, hearing_by, frame_hearing}
-use Rattle.uslp_counting.specs.Places.{lost}
 use Rattle.uslp_counting.specs.History.{Hearer, Call, record_of, is_of, called, Roomy, run, handed, missing_for, Sender, frame_at, Event, handing_at, places}
 use Rattle.uslp_counting.specs.History.Call.{hears}
 use Rattle.uslp_counting.specs.History.Event.{arrives, elsewhere}

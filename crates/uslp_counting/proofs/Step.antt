@@ -135,7 +135,14 @@ module _ {name : Naming} {K : Channel} {width : ℕ} {managed : ManagedParameter
     advance lo hi quiet near = advance_first
     advance lo hi (going k ks f l t last top gone all) near = advance_going lo hi k ks f l t last top gone all near.0 near.1
 
+  heard_room : {seen before : List ℕ} {x : SlotState} → Counting seen before x → (t : Totals) → x ≡ Heard K width t → length seen ≤ most
+      → lost before ≤ most → overfull t ≡ false
+  heard_room quiet t e few less = cc
+  heard_room (going k ks f l u last top gone all) t e few less =
+      let same : u ≡ t = cc in
+      subst (λ (v : Totals). overfull v ≡ false) same (not_full u (omega arith) (omega arith) (omega arith) (omega arith))
+
   -- totals of few arrivals, of which few are lost, are not full
   pub counting_room : {k : ℕ} {ks before : List ℕ} {t : Totals} → Counting (k ∷ ks) before (Heard K width t) → length (k ∷ ks) ≤ most → lost before ≤ most
       → overfull t ≡ false
-  counting_room (going k ks f l t last top gone all) few less = not_full t (omega arith) (omega arith) (omega arith) (omega arith)
+  counting_room {t = t} c few less = heard_room c t refl few less
