@@ -90,7 +90,7 @@ pub take_block_greedy : (s : List ℕ) (a : IntakeAnswer) (left : List ℕ) → 
 unfolding frame_reading header_reading field_reading
 take_block_greedy s a left e h = omega (arith, take_block_whole s 0 (octets_f ++ 0 ∷ []) no_fecf a left e 11 refl, h)
 
--- dropping what was held at a wait is shut out by `wait-kept` (Demand1.antt). Waiting on a truncated frame of four octets: it stops, whatever the buffer
+-- dropping what was held at a wait is shut out by `wait_kept` (Demand1.antt). Waiting on a truncated frame of four octets: it stops, whatever the buffer
 pub take_block_truncated : (s : List ℕ) → 65536 ≤ length s → (managed : ManagedParameters) (a : IntakeAnswer) (left : List ℕ)
     → Takes s 0 (0xC1 ∷ 0x23 ∷ 0x48 ∷ 0xA7 ∷ []) managed a left → a ≡ Stopped 4 4 Truncated
 unfolding taking frame_reading header_reading

@@ -16,7 +16,7 @@ use Rattle.uslp_counting.specs.Restarts.Restart.{resumes as goes_on, refuses as 
 use Rattle.uslp_counting.specs.Live.{Demand3Live}
 use Rattle.uslp_counting.proofs.Restarts.{leads_mono}
 use Rattle.uslp_counting.proofs.Live.{live}
-use Rattle.uslp_demands.specs.Promise.{at, at_mut, Program, Keeps}
+use Rattle.uslp_demands.specs.Promise.{at_mut, Program, Keeps}
 use Rattle.uslp_demands.proofs.OfHearing.{fn_hear}
 use Rattle.uslp_demands.proofs.OfIntake.{fn_take_block}
 use Rattle.uslp_demands.proofs.OfSaved.{fn_save, fn_restore, saver_of, restorer_of, restores}
