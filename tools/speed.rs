@@ -12,7 +12,7 @@ use spacepackets::uslp::{
     ConstructionRule, PrimaryHeader, SourceOrDestField, TransferFrameCreator, TransferFrameDataFieldHeader, TransferFrameReader, UslpProtocolId,
 };
 
-// crates/uslp_timing: a slice is its address and its length
+// crates/uslp_timing_c: a slice is its address and its length
 unsafe extern "C" {
     fn uslp_timing_checksum(message: *const u8, len: usize) -> u16;
     fn uslp_timing_read(octets: *const u8, len: usize, found: *mut [u64; 16]) -> u8;

@@ -9,6 +9,7 @@ use uslp_kinds::Refusal;
 use uslp_octets::be_number;
 
 impl PrimaryHeader {
+    #[tactic(auto, unfolding(crate::specs::Header::header_reading))]
     pub fn from_bytes(buf: &[u8]) -> HeaderAnswer
         ensures { paper_header result ≡ header_reading buf.now }
     {

@@ -34,6 +34,7 @@ pub enum FrameAnswer {
 impl TransferFrame {
     // Refuses, in this order: SHORT_SOURCE, TRUNCATED, SHORT_SOURCE, BAD_VERSION, SHORT_SOURCE (count, whole frame, data field
     // header), BAD_PROTOCOL, FRAME_TOO_SHORT, BAD_CHECKSUM.
+    #[tactic(auto, unfolding(crate::specs::Reader::frame_reading))]
     pub fn from_bytes(buf: &[u8], managed: ManagedParameters) -> FrameAnswer
         ensures { paper_frame result ≡ frame_reading buf.now managed }
     {
@@ -122,6 +123,7 @@ pub fn data_of(answer: FrameAnswer, buf: &[u8]) -> &[u8]
 }
 
 // The frame whose header stands: SHORT_SOURCE (whole frame), then the data field header's.
+#[tactic(auto, unfolding(crate::specs::Reader::frame_reading))]
 fn read_whole(buf: &[u8], managed: ManagedParameters, header: PrimaryHeader) -> FrameAnswer
     requires { header_reading buf.now ≡ done header }
     ensures { paper_frame result ≡ frame_reading buf.now managed }
@@ -139,6 +141,7 @@ fn read_whole(buf: &[u8], managed: ManagedParameters, header: PrimaryHeader) -> 
 }
 
 // The frame whose two headers stand: FRAME_TOO_SHORT, BAD_CHECKSUM.
+#[tactic(auto, unfolding(crate::specs::Reader::frame_reading))]
 fn read_body(
     buf: &[u8],
     managed: ManagedParameters,

@@ -1,4 +1,4 @@
-// The checksum, a reading and a writing under names that C can call, for the harness in tools/ that times them beside the Rust's.
+// The checksum, a reading and a writing with outcomes as numbers, as C calls them: `uslp_timing_c` exports each under its name.
 #![tactic(auto)]
 
 ghost use Rattle.std.specs.Prelude.{◌≡◌};
@@ -18,16 +18,14 @@ use uslp_primary_header::PrimaryHeader;
 use uslp_reader::{FrameAnswer, TransferFrame};
 use uslp_writer::TransferFrameCreator;
 
-#[unsafe(no_mangle)]
-pub extern "C" fn uslp_timing_checksum(message: &[u8]) -> u16
+pub fn uslp_timing_checksum(message: &[u8]) -> u16
     ensures { result ≡ checksum_of message.now }
 {
     checksum(message)
 }
 
 // Reads a frame with FECF: 0, and all that the frame says in `found`, so that no part of the reading is left out; or the refusal's number.
-#[unsafe(no_mangle)]
-pub extern "C" fn uslp_timing_read(octets: &[u8], found: &mut [u64; 16]) -> u8
+pub fn uslp_timing_read(octets: &[u8], found: &mut [u64; 16]) -> u8
     ensures { (result ≡ told (frame_reading octets.now fecf))
         × (found.new ≡ numbers_found (frame_reading octets.now fecf) found.old) }
 {
@@ -41,8 +39,7 @@ pub extern "C" fn uslp_timing_read(octets: &[u8], found: &mut [u64; 16]) -> u8
 }
 
 // Writes a frame with FECF: its total, or 0 where the writing was refused.
-#[unsafe(no_mangle)]
-pub extern "C" fn uslp_timing_write(
+pub fn uslp_timing_write(
     spacecraft_id: u16,
     vc_id: u8,
     map_id: u8,

@@ -1,14 +1,12 @@
 -- At each `return` the tests that led there say which law of `frame_reading` holds.
-use Rattle.std.proofs.Common.{arith, ℕ, List, ◌≡◌, ◌↔◌, ap, ap₂, sym, ◌∙◌, ◌-◌, ◌≤◌, ◌<◌, [], ◌∷◌, take, get_or, length}
-use mathlib.Core.Bool.{false≢true}
+use Rattle.std.proofs.Common.{arith, ℕ, List, ◌≡◌, ◌↔◌, ap, sym, ◌∙◌, ◌-◌, ◌≤◌, ◌<◌, take, get_or, length}
 use Rattle.uslp_checksum.specs.Checksum.{checksum_of}
 use Rattle.uslp_checksum.proofs.Laws.{residue}
-use Rattle.uslp_kinds.specs.Outcome.{refused}
 use Rattle.uslp_primary_header.specs.Header.{len_frame}
 use Rattle.uslp_primary_header.specs.declared.PrimaryHeader.{PrimaryHeader}
 use Rattle.uslp_reader.specs.Reader.{stored_fecf, computed_fecf}
 use Rattle.uslp_reader.proofs.Parts.{first_part, last_two}
-use Rattle.uslp_reader.proofs.Paths.{reading_too_short, reading_checksum, reading_frame}
+use Rattle.uslp_reader.proofs.Paths.{reading_checksum, reading_frame}
 use Rattle.uslp_reader.proofs.read_body.Goals as goal
 
 -- a frame passes where what the code compares is equal, and only there
@@ -16,44 +14,28 @@ tied : (h : PrimaryHeader) (s : List ℕ) → ((i : ℕ) → get_or s i 0 < 256)
     → (checksum_of (take (len_frame h) s) ≡ 0) ↔ (computed_fecf h s ≡ stored_fecf h s)
 tied h s o two fits = residue _ s (λ i. o i) two fits
 
-pub returns-then-length-needed : goal.returns-then-length-needed
-returns-then-length-needed c =
-    let p = c.requires in
-    let l = c.len_frame-length.ensures in
-    let n = c.needed_len-needed.ensures in
-    ap₂ (λ (a b : ℕ). refused 7 (a ∷ b ∷ [])) l n
-    ∙ sym (reading_too_short _ _ _ p.0 p.1 _ p.2 (omega (arith, l, n, c.if-length-needed.true)))
-
 pub returns-then-stored-computed : goal.returns-then-stored-computed
 returns-then-stored-computed c =
     let p = c.requires in
     let l = c.len_frame-length.ensures in
     let a = c.args in
-    let two : 2 ≤ len_frame a.header = omega (arith, l, c.needed_len-needed.ensures, c.if-length-needed.false) in
+    let two : 2 ≤ len_frame a.header = omega (arith, l, c.needed_len-needed.ensures) in
     let stored = c.be_u16-stored.ensures ∙ last_two a.buf.now _ _ l two in
     let computed = c.checksum-computed.ensures ∙ ap checksum_of (first_part a.buf.now _ _ (ap (λ (n : ℕ). n - 2) l)) in
     let t = tied a.header a.buf.now (λ i. omega (arith, c.type_inv.buf i)) two p.1 in
     sym
-    (reading_checksum _ _ _ p.0 p.1 _ p.2 (omega (arith, l, c.needed_len-needed.ensures, c.if-length-needed.false)) c.if-managed.true
-    (λ z. omega (arith, c.if-stored-computed.true, stored, computed, t.0 z)) (omega (arith, stored)) (omega (arith, computed)))
+    (reading_checksum _ _ _ p.0 p.1 _ p.2 (omega (arith, l, c.needed_len-needed.ensures)) c.if-managed.true
+    (λ z. omega (arith, stored, computed, t.0 z)) (omega (arith, stored)) (omega (arith, computed)))
 
 pub returns-then-managed : goal.returns-then-managed
 returns-then-managed c =
     let p = c.requires in
     let l = c.len_frame-length.ensures in
     let a = c.args in
-    let two : 2 ≤ len_frame a.header = omega (arith, l, c.needed_len-needed.ensures, c.if-length-needed.false) in
+    let two : 2 ≤ len_frame a.header = omega (arith, l, c.needed_len-needed.ensures) in
     let stored = c.be_u16-stored.ensures ∙ last_two a.buf.now _ _ l two in
     let computed = c.checksum-computed.ensures ∙ ap checksum_of (first_part a.buf.now _ _ (ap (λ (n : ℕ). n - 2) l)) in
     let t = tied a.header a.buf.now (λ i. omega (arith, c.type_inv.buf i)) two p.1 in
     sym
-    (reading_frame _ _ _ p.0 p.1 _ p.2 (omega (arith, l, c.needed_len-needed.ensures, c.if-length-needed.false))
-    (λ m. t.1 (omega (arith, c.if-stored-computed.false, stored, computed))) l c.needed_len-needed.ensures c.frame_of.ensures)
-
-pub returns : goal.returns
-returns c =
-    let p = c.requires in
-    let l = c.len_frame-length.ensures in
-    sym
-    (reading_frame _ _ _ p.0 p.1 _ p.2 (omega (arith, l, c.needed_len-needed.ensures, c.if-length-needed.false))
-    (λ t. absurd (false≢true (sym c.if-managed.false ∙ t))) l c.needed_len-needed.ensures c.frame_of-2.ensures)
+    (reading_frame _ _ _ p.0 p.1 _ p.2 (omega (arith, l, c.needed_len-needed.ensures))
+    (λ m. t.1 (omega (arith, stored, computed))) l c.needed_len-needed.ensures c.frame_of.ensures)

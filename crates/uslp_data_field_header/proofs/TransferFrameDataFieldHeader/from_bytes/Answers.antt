@@ -11,8 +11,8 @@ returns-then-applicable_to_fixed_len_tfdz c =
     let p : word 1 2 s ≡ c.be_u16.result = omega (arith, c.be_u16.ensures) in
     c.with_protocol.ensures
     ∙ sym
-    (reading_pointer s c.if-found-lt1.false r.result _ (rule_at s ∙ sym r.ensures) (number_at s)
-    (sym c.applicable_to_fixed_len_tfdz.ensures ∙ c.if-applicable_to_fixed_len_tfdz.true) _ p c.if-found-lt3.false)
+    (reading_pointer s (omega arith) r.result _ (rule_at s ∙ sym r.ensures) (number_at s)
+    (sym c.applicable_to_fixed_len_tfdz.ensures ∙ c.if-applicable_to_fixed_len_tfdz.true) _ p (omega arith))
 
 pub returns : goal.returns
 returns c =
@@ -20,5 +20,5 @@ returns c =
     let s = c.args.buf.now in
     c.with_protocol-2.ensures
     ∙ sym
-    (reading_other s c.if-found-lt1.false r.result _ (rule_at s ∙ sym r.ensures) (number_at s)
+    (reading_other s (omega arith) r.result _ (rule_at s ∙ sym r.ensures) (number_at s)
     (sym c.applicable_to_fixed_len_tfdz.ensures ∙ c.if-applicable_to_fixed_len_tfdz.false))

@@ -1,0 +1,40 @@
+-- A frame, a refusal and the end of the recording, each by its step of `Passing`.
+use Rattle.std.proofs.Common.{◌≡◌, ◌-◌, refl, ap, sym, ◌∙◌, ℕ, List, arith, length, take, drop}
+use Rattle.uslp_kinds.specs.Managed.{no_fecf}
+use Rattle.uslp_kinds.specs.Outcome.{Outcome}
+use Rattle.uslp_reader.specs.Reader.{frame_reading}
+use Rattle.uslp_reader.specs.declared.TransferFrame.{TransferFrame}
+use Rattle.uslp_reader.proofs.Parts.{rest_part}
+use Rattle.uslp_text.proofs.Telling.{told_as}
+use Rattle.uslp_listing.specs.Listing.{summary}
+use Rattle.uslp_listing.proofs.Passing.{passed_none, passed_more, passed_refused, passed_all}
+use Rattle.uslp_listing.proofs.put_lines.Goals as goal
+
+-- an answer to the reading at the place names what stands there
+answered : (s : List ℕ) (place : ℕ) {o : Outcome TransferFrame} → o ≡ frame_reading (take (length s - place) (drop place s)) no_fecf
+    → frame_reading (drop place s) no_fecf ≡ o
+answered s place e = ap (λ (t : List ℕ). frame_reading t no_fecf) (sym (rest_part s place place refl)) ∙ sym e
+
+pub loop-place-init : goal.loop-place-init
+loop-place-init c = passed_none _ _ _
+
+pub loop-place-preserved : goal.loop-place-preserved
+loop-place-preserved c =
+    passed_more c.requires c.loop-place.invariant c.in-Done.frame (omega arith)
+    (answered c.args.recording.now c.loop-place.place c.in-Done.ensures)
+    (record { spacecraft = omega arith; channel = omega arith; map = omega arith; count = omega arith })
+    c.len_frame-place.ensures
+    c.put_line-at.ensures
+
+pub returns-in-Refused : goal.returns-in-Refused
+returns-in-Refused c =
+    let l = c.loop-place in
+    let whole = passed_refused c.requires l.invariant (omega arith) (omega (arith, c.number.ensures))
+    (answered c.args.recording.now l.place c.in-Refused.ensures)
+    (told_as (ap (summary l.frames l.place) c.number.ensures) c.put_summary.ensures) in
+    record { told = whole.0; recording_len_bound = whole.1 }
+
+pub returns : goal.returns
+returns c =
+    let whole = passed_all c.requires c.loop-place.invariant (omega arith) c.put_summary-2.ensures in
+    record { told = whole.0; recording_len_bound = whole.1 }
