@@ -7,7 +7,7 @@ use Prim.Native.Nat.{ℕ, ◌+◌, ◌-◌, min}
 use lib.Dec.{ltb}
 use lib.ListN.{length, take, drop}
 use contract.Lifetimes.{Lfts}
-use denote.Ref.{Bor}
+use denote.Ref.{Bor, MutBor}
 use Rattle.uslp_octets.specs.Octets.{pack, overlaid}
 use Rattle.uslp_kinds.specs.Outcome.{Outcome, done, refused, and_then, first_of}
 use Rattle.uslp_kinds.specs.Answers.{refusal}
@@ -46,7 +46,7 @@ use Rattle.uslp_form.proofs.Converted.{converting_kept}
 use Rattle.uslp_form.proofs.Rows.{restores_refused}
 use Rattle.uslp_listing.specs.Listing.{listing, room, listing_over}
 use Rattle.uslp_lent.specs.Setting.{header_left, header_off}
-use Rattle.uslp_lent.proofs.setters as setters
+use Rattle.uslp_lent.specs.contracts.setters as setters
 use Rattle.uslp_intake.specs.declared.IntakeAnswer.TheVariants as intake_answer
 use Rattle.uslp_intake.proofs.Calls.{writes_taken, wait_holds, stop_holds}
 use Rattle.uslp_intake.proofs.Calls.{refused_keeps as intake_keeps}
@@ -68,7 +68,7 @@ use Rattle.uslp_demands.proofs.OfListing.{fn_list}
 abbrev short : {A : Type 0} → List ℕ → ℕ → List (Bool × Outcome A)
 short s n = (ltb (length s) n, refused 2 (length s ∷ n ∷ [])) ∷ []
 
-module _ (r : Refusal) (s : Bor (List ℕ)) (left : List ℕ) where
+module _ (r : Refusal) (s : MutBor (List ℕ)) (left : List ℕ) where
   pub header_kept : (κs : Lfts 1) (h : PrimaryHeader)
       → Allows of_header.fn_write_to_slice κs (h, (s, tt)) (Refused r, (tt, (left, tt)))
       → left ≡ s.now
@@ -190,12 +190,12 @@ setting_kept : (h left : PrimaryHeader) (o : Outcome PrimaryHeader) {k : ℕ} {v
 setting_kept h left (done g) e f = absurd (not_done f)
 setting_kept h left (refused j ws) e f = e
 
-module _ (r : Refusal) (h : Bor PrimaryHeader) (left : PrimaryHeader) where
+module _ (r : Refusal) (h : MutBor PrimaryHeader) (left : PrimaryHeader) where
   pub frame_len_kept : (κs : Lfts 1) (n : ℕ)
-      → Implies setters.set_frame_len.ended (λ M. setters.set_frame_len.clauses) κs (h, (n, tt)) (done_answer.Refused r, (left, (tt, tt))) (left ≡ h.now)
+      → Implies setters.set_frame_len.ended (λ M 𝓤. setters.set_frame_len.clauses) κs (h, (n, tt)) (done_answer.Refused r, (left, (tt, tt))) (left ≡ h.now)
   frame_len_kept κs n = implies _ _ (λ e. setting_kept h.now left (length_setting h.now n) e.0 e.1)
 
   pub vc_frame_count_kept : (κs : Lfts 1) (w n : ℕ)
-      → Implies setters.set_vc_frame_count.ended (λ M. setters.set_vc_frame_count.clauses) κs (h, (w, (n, tt)))
+      → Implies setters.set_vc_frame_count.ended (λ M 𝓤. setters.set_vc_frame_count.clauses) κs (h, (w, (n, tt)))
       (done_answer.Refused r, (left, (tt, (tt, tt)))) (left ≡ h.now)
   vc_frame_count_kept κs w n = implies _ _ (λ e. setting_kept h.now left (count_setting h.now w n) e.0 e.1)

@@ -24,7 +24,7 @@ use Rattle.uslp_form.proofs.Exactly as exactly
 use Rattle.uslp_saved.specs.Reading.{first_count, second_count, place_of}
 use Rattle.uslp_saved.proofs.Entries.{flags_read}
 use Rattle.uslp_converting.proofs as converting
-use Rattle.uslp_demands.specs.Promise.{Function, function, at, Settles, Program, Keeps}
+use Rattle.uslp_demands.specs.Promise.{Function, function, at, at_mut, Settles, Program, Keeps}
 use Rattle.uslp_demands.proofs.Alike.{alike}
 use Rattle.uslp_demands.proofs.OfSaved.{fn_restore, restorer_of, restores}
 
@@ -40,7 +40,7 @@ convert_settles = record {
 
 -- what a program leaves that converts, as the definition sees it
 abbrev pub converter_of : Program fn_convert → Form → Form → List ℕ → List ℕ → Written ℕ
-converter_of c f g s b = let x = c ([], ([], tt)) (f, (at s, (g, (at b, tt)))) in leaving (paper_length x.0) x.1.1.1.1.0
+converter_of c f g s b = let x = c ([], ([], tt)) (f, (at s, (g, (at_mut b, tt)))) in leaving (paper_length x.0) x.1.1.1.1.0
 
 -- octets are the form of some entries, and each section of it ascends
 pub record Ascends (g : Form) (s : List ℕ) : Type 0 where
@@ -53,7 +53,7 @@ pub record Ascends (g : Form) (s : List ℕ) : Type 0 where
 -- any program that keeps the promise of `convert`
 module _ (c : Program fn_convert) (keeps : Keeps fn_convert c) where
   pub converts : (f g : Form) (s b : List ℕ) → Converting f g s b (converter_of c f g s b)
-  converts f g s b = keeps ([], ([], tt)) (f, (at s, (g, (at b, tt))))
+  converts f g s b = keeps ([], ([], tt)) (f, (at s, (g, (at_mut b, tt))))
 
   done_so : (f g : Form) (s b : List ℕ) {n : ℕ} {t : List ℕ} → converter_of c f g s b ≡ leaving (done n) t → Converting f g s b (leaving (done n) t)
   done_so f g s b e = subst (Converting f g s b) e (converts f g s b)

@@ -15,7 +15,7 @@ use Rattle.uslp_data_field_header.specs.declared.TransferFrameDataFieldHeader.{T
 use Rattle.uslp_data_field_header.specs.declared.DataFieldHeaderAnswer.TheVariants as field_answer
 use Rattle.uslp_data_field_header.proofs.RoundTrip.{field_back}
 use Rattle.uslp_data_field_header.proofs as field
-use Rattle.uslp_demands.specs.Promise.{Function, function, at, Allows, Settles}
+use Rattle.uslp_demands.specs.Promise.{Function, function, at, at_mut, Allows, Settles}
 use Rattle.uslp_roundtrip.specs.Samples.{whole, spanning}
 use Rattle.uslp_demands.proofs.Alike.{alike}
 
@@ -168,11 +168,11 @@ write_to_slice_settles = record {
 }
 
 -- writes nothing and says done
-pub write_to_slice_idle : Allows fn_write_to_slice ([], tt) (whole, (at (0 ∷ []), tt)) (length_answer.Done 1, (tt, (0 ∷ [], tt))) → ⊥
+pub write_to_slice_idle : Allows fn_write_to_slice ([], tt) (whole, (at_mut (0 ∷ []), tt)) (length_answer.Done 1, (tt, (0 ∷ [], tt))) → ⊥
 unfolding field_writing
 write_to_slice_idle e = let z : ◌≡◌ {A = ℕ} 0 0xE4 = cc in omega arith
 
 -- writes what fits of a header that does not
-pub write_to_slice_part : Allows fn_write_to_slice ([], tt) (spanning, (at (7 ∷ []), tt)) (length_answer.Refused (ShortTarget 1 3), (tt, (0x1F ∷ [], tt))) → ⊥
+pub write_to_slice_part : Allows fn_write_to_slice ([], tt) (spanning, (at_mut (7 ∷ []), tt)) (length_answer.Refused (ShortTarget 1 3), (tt, (0x1F ∷ [], tt))) → ⊥
 unfolding field_writing
 write_to_slice_part e = let z : ◌≡◌ {A = ℕ} 0x1F 7 = cc in omega arith

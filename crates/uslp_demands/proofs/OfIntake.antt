@@ -25,7 +25,7 @@ use Rattle.uslp_intake.proofs.Steps.{intaking_done}
 use Rattle.uslp_cutting.specs.Offering as cutting
 use Rattle.uslp_intake.proofs.Calls.{takes_least, takes_none, wait_short}
 use Rattle.uslp_cutting.proofs.Calls.{frame_whole}
-use Rattle.uslp_demands.specs.Promise.{Function, function, at, Allows, Settles}
+use Rattle.uslp_demands.specs.Promise.{Function, function, at, at_mut, Allows, Settles}
 use Rattle.uslp_demands.proofs.Alike.{alike}
 
 -- the functions, each with its promise
@@ -65,7 +65,7 @@ take_block_settles = record {
 
 -- the promise allows this answer, and these octets of the holding buffer after it
 abbrev pub Takes : List ℕ → ℕ → List ℕ → ManagedParameters → IntakeAnswer → List ℕ → Type 0
-Takes s held block managed a left = Allows fn_take_block ([], ([], tt)) (at s, (held, (at block, (managed, tt)))) (a, (left, (tt, (tt, (tt, tt)))))
+Takes s held block managed a left = Allows fn_take_block ([], ([], tt)) (at_mut s, (held, (at block, (managed, tt)))) (a, (left, (tt, (tt, (tt, tt)))))
 
 module _ (s : List ℕ) (held : ℕ) (block : List ℕ) (managed : ManagedParameters) (a : IntakeAnswer) (left : List ℕ) (e : Takes s held block managed a left) where
   -- taking the whole block: where octets of its front decide, no more than these are taken
@@ -90,7 +90,7 @@ pub take_block_greedy : (s : List ℕ) (a : IntakeAnswer) (left : List ℕ) → 
 unfolding frame_reading header_reading field_reading
 take_block_greedy s a left e h = omega (arith, take_block_whole s 0 (octets_f ++ 0 ∷ []) no_fecf a left e 11 refl, h)
 
--- dropping what was held at a wait is shut out by `wait-kept` (Demand1.antt). Waiting on a truncated frame of four octets: it stops, whatever the buffer
+-- dropping what was held at a wait is shut out by `wait_kept` (Demand1.antt). Waiting on a truncated frame of four octets: it stops, whatever the buffer
 pub take_block_truncated : (s : List ℕ) → 65536 ≤ length s → (managed : ManagedParameters) (a : IntakeAnswer) (left : List ℕ)
     → Takes s 0 (0xC1 ∷ 0x23 ∷ 0x48 ∷ 0xA7 ∷ []) managed a left → a ≡ Stopped 4 4 Truncated
 unfolding taking frame_reading header_reading

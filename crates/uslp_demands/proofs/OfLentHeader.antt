@@ -3,7 +3,7 @@ use mathlib.Core.Path.{◌≡◌, refl, sym, ap, ◌∙◌}
 use Prim.Native.Nat.{ℕ}
 use mathlib.Core.List.{[]}
 use native.Mathlib.Omega.{arith}
-use denote.Ref.{Bor}
+use denote.Ref.{MutBor}
 use Rattle.uslp_kinds.specs.Answers.{paper_done}
 use Rattle.uslp_kinds.specs.declared.DoneAnswer.TheVariants.{Done, Refused}
 use Rattle.uslp_kinds.specs.declared.Refusal.TheVariants.{BadCount, TooLong}
@@ -13,6 +13,7 @@ use Rattle.uslp_primary_header.specs.declared.PrimaryHeader.{PrimaryHeader}
 use Rattle.uslp_primary_header.specs.declared.HeaderAnswer.TheVariants as header_answer
 use Rattle.uslp_lent.specs.declared.setters.Decided.{Decided}
 use Rattle.uslp_lent.proofs.setters as setters
+use Rattle.uslp_lent.specs.contracts.setters as contracts
 use Rattle.uslp_demands.specs.Promise.{Function, function, Allows, Settles}
 use Rattle.uslp_demands.specs.Clause as clause
 use Rattle.uslp_roundtrip.specs.Samples.{some, made}
@@ -33,9 +34,9 @@ fn_decide_vc_frame_count =
     function setters.decide_vc_frame_count.Kinds.ps setters.decide_vc_frame_count.Kinds.r
     setters.decide_vc_frame_count.Reads.Pre setters.decide_vc_frame_count.Reads.Learnt
 
--- a header that is lent
-abbrev lent : PrimaryHeader → Bor PrimaryHeader
-lent h = record { ref_ptr = (0, 0); now = h }
+-- a header that is lent for writing
+abbrev lent : PrimaryHeader → MutBor PrimaryHeader
+lent h = record { ref_ptr = (0, 0); ghost_name = 0; now = h }
 
 decided_alike : {d e : Decided} → d.header ≡ e.header → paper_done d.answer ≡ paper_done e.answer → d ≡ e
 decided_alike {d} {e} h a = λ i. record { header = h i; answer = done_alike {x = d.answer} {y = e.answer} a i }
@@ -82,33 +83,33 @@ pub decide_vc_frame_count_set : Allows fn_decide_vc_frame_count tt (some, (1, (2
 unfolding count_setting
 decide_vc_frame_count_set e = let z : ◌≡◌ {A = ℕ} 256 7 = ap (λ (h : PrimaryHeader). h.vc_frame_count) e.0 in omega arith
 
-pub set_frame_len_settles : clause.Settles setters.set_frame_len.ended (λ M. setters.set_frame_len.clauses)
+pub set_frame_len_settles : clause.Settles contracts.set_frame_len.ended (λ M 𝓤. contracts.set_frame_len.clauses)
 set_frame_len_settles = by_fact _ _ (λ κs a x y s t. alike (done_alike {x = x.0} {y = y.0} (s.1 ∙ sym t.1)) (λ i. ((s.0 ∙ sym t.0) i, (tt, tt))))
 
 -- says done and leaves the old length
-pub set_frame_len_idle : clause.ShutsOut setters.set_frame_len.ended (λ M. setters.set_frame_len.clauses) ([], tt) (lent some, (12, tt))
+pub set_frame_len_idle : clause.ShutsOut contracts.set_frame_len.ended (λ M 𝓤. contracts.set_frame_len.clauses) ([], tt) (lent some, (12, tt))
     (Done, (some, (tt, tt)))
 unfolding length_setting
 set_frame_len_idle = shut _ _ (λ e. let z : ◌≡◌ {A = ℕ} 10 11 = ap (λ (h : PrimaryHeader). h.frame_len_field) e.0 in omega arith)
 
 -- refuses 65,537 and leaves it wrapped
-pub set_frame_len_wrapped : clause.ShutsOut setters.set_frame_len.ended (λ M. setters.set_frame_len.clauses) ([], tt) (lent some, (65537, tt))
+pub set_frame_len_wrapped : clause.ShutsOut contracts.set_frame_len.ended (λ M 𝓤. contracts.set_frame_len.clauses) ([], tt) (lent some, (65537, tt))
     (Refused TooLong, (with_length 1 some, (tt, tt)))
 unfolding length_setting
 set_frame_len_wrapped = shut _ _ (λ e. let z : ◌≡◌ {A = ℕ} 0 10 = ap (λ (h : PrimaryHeader). h.frame_len_field) e.0 in omega arith)
 
-pub set_vc_frame_count_settles : clause.Settles setters.set_vc_frame_count.ended (λ M. setters.set_vc_frame_count.clauses)
+pub set_vc_frame_count_settles : clause.Settles contracts.set_vc_frame_count.ended (λ M 𝓤. contracts.set_vc_frame_count.clauses)
 set_vc_frame_count_settles = by_fact _ _
     (λ κs a x y s t. alike (done_alike {x = x.0} {y = y.0} (s.1 ∙ sym t.1)) (λ i. ((s.0 ∙ sym t.0) i, (tt, (tt, tt)))))
 
 -- keeps the header's own width
-pub set_vc_frame_count_own_width : clause.ShutsOut setters.set_vc_frame_count.ended (λ M. setters.set_vc_frame_count.clauses) ([], tt)
+pub set_vc_frame_count_own_width : clause.ShutsOut contracts.set_vc_frame_count.ended (λ M 𝓤. contracts.set_vc_frame_count.clauses) ([], tt)
     (lent some, (2, (9, tt))) (Done, (with_count 1 9 some, (tt, (tt, tt))))
 unfolding count_setting
 set_vc_frame_count_own_width = shut _ _ (λ e. let z : ◌≡◌ {A = ℕ} 1 2 = ap (λ (h : PrimaryHeader). h.vc_frame_count_len) e.0 in omega arith)
 
 -- refuses 256 in one octet and leaves it set
-pub set_vc_frame_count_set : clause.ShutsOut setters.set_vc_frame_count.ended (λ M. setters.set_vc_frame_count.clauses) ([], tt)
+pub set_vc_frame_count_set : clause.ShutsOut contracts.set_vc_frame_count.ended (λ M 𝓤. contracts.set_vc_frame_count.clauses) ([], tt)
     (lent some, (1, (256, tt))) (Refused (BadCount 256 1), (with_count 1 256 some, (tt, (tt, tt))))
 unfolding count_setting
 set_vc_frame_count_set = shut _ _ (λ e. let z : ◌≡◌ {A = ℕ} 256 7 = ap (λ (h : PrimaryHeader). h.vc_frame_count) e.0 in omega arith)

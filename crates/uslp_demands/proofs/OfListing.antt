@@ -14,7 +14,7 @@ use Rattle.uslp_reader.specs.EndToEnd.{cut_up_to}
 use Rattle.uslp_text.specs.Text.{width_in}
 use Rattle.uslp_listing.specs.Listing.{lines, listing, listing_over}
 use Rattle.uslp_listing.proofs as listing_proofs
-use Rattle.uslp_demands.specs.Promise.{Function, function, at, Allows, Settles}
+use Rattle.uslp_demands.specs.Promise.{Function, function, at, at_mut, Allows, Settles}
 use Rattle.uslp_roundtrip.specs.Samples.{octets_f}
 use Rattle.uslp_demands.proofs.Alike.{alike}
 
@@ -30,12 +30,12 @@ list_settles = record {
 }
 
 -- takes a buffer of any length
-pub list_lax : Allows fn_list ([], ([], tt)) (at [], (at [], tt)) (length_answer.Done 0, (tt, ([], tt))) → ⊥
+pub list_lax : Allows fn_list ([], ([], tt)) (at [], (at_mut [], tt)) (length_answer.Done 0, (tt, ([], tt))) → ⊥
 unfolding listing_over
 list_lax e = let d = (leaving_one e).0 in let z : ◌≡◌ {A = ℕ} 0 1 = cc in omega arith
 
 -- writes what fits of it
-pub list_part : Allows fn_list ([], ([], tt)) (at [], (at (0 ∷ []), tt)) (length_answer.Refused (ShortTarget 1 524400), (tt, (97 ∷ [], tt))) → ⊥
+pub list_part : Allows fn_list ([], ([], tt)) (at [], (at_mut (0 ∷ []), tt)) (length_answer.Refused (ShortTarget 1 524400), (tt, (97 ∷ [], tt))) → ⊥
 unfolding listing_over
 list_part e = let d = (leaving_one e).1 in let z : ◌≡◌ {A = ℕ} 97 0 = cc in omega arith
 

@@ -7,7 +7,7 @@ use native.Mathlib.Omega.{arith}
 use lib.ListN.{length, get_or}
 use denote.Ref.{Bor}
 use Rattle.uslp_octets.proofs as octets
-use Rattle.uslp_demands.specs.Promise.{Function, function, at, Allows, Settles, Shows}
+use Rattle.uslp_demands.specs.Promise.{Function, function, at, at_mut, Allows, Settles, Shows}
 use Rattle.uslp_demands.proofs.Alike.{alike}
 
 -- the functions, each with its promise
@@ -33,22 +33,22 @@ pub copy_octets_settles : Settles fn_copy_octets
 copy_octets_settles = record { total = λ κs a. tt; same = λ κs a x y s t. alike refl (λ i. (tt, ((s ∙ sym t) i, tt))) }
 
 -- copies nothing
-pub copy_octets_idle : Allows fn_copy_octets ([], ([], tt)) (at (1 ∷ 2 ∷ []), (at (7 ∷ 8 ∷ 9 ∷ []), tt)) (tt, (tt, (7 ∷ 8 ∷ 9 ∷ [], tt))) → ⊥
+pub copy_octets_idle : Allows fn_copy_octets ([], ([], tt)) (at (1 ∷ 2 ∷ []), (at_mut (7 ∷ 8 ∷ 9 ∷ []), tt)) (tt, (tt, (7 ∷ 8 ∷ 9 ∷ [], tt))) → ⊥
 copy_octets_idle e = let z : ◌≡◌ {A = ℕ} 7 1 = cc in omega arith
 
 -- stops one octet early
-pub copy_octets_short : Allows fn_copy_octets ([], ([], tt)) (at (1 ∷ 2 ∷ []), (at (7 ∷ 8 ∷ 9 ∷ []), tt)) (tt, (tt, (1 ∷ 8 ∷ 9 ∷ [], tt))) → ⊥
+pub copy_octets_short : Allows fn_copy_octets ([], ([], tt)) (at (1 ∷ 2 ∷ []), (at_mut (7 ∷ 8 ∷ 9 ∷ []), tt)) (tt, (tt, (1 ∷ 8 ∷ 9 ∷ [], tt))) → ⊥
 copy_octets_short e = let z : ◌≡◌ {A = ℕ} 8 2 = cc in omega arith
 
 pub put_be_number_settles : Settles fn_put_be_number
 put_be_number_settles = record { total = λ κs a. tt; same = λ κs a x y s t. alike refl (λ i. (tt, ((s ∙ sym t) i, tt))) }
 
 -- writes nothing
-pub put_be_number_idle : Allows fn_put_be_number ([], tt) (0x0102, (at (7 ∷ 8 ∷ []), tt)) (tt, (tt, (7 ∷ 8 ∷ [], tt))) → ⊥
+pub put_be_number_idle : Allows fn_put_be_number ([], tt) (0x0102, (at_mut (7 ∷ 8 ∷ []), tt)) (tt, (tt, (7 ∷ 8 ∷ [], tt))) → ⊥
 put_be_number_idle e = let z : ◌≡◌ {A = ℕ} 7 1 = cc in omega arith
 
 -- the least significant octet first
-pub put_be_number_little : Allows fn_put_be_number ([], tt) (0x0102, (at (7 ∷ 8 ∷ []), tt)) (tt, (tt, (2 ∷ 1 ∷ [], tt))) → ⊥
+pub put_be_number_little : Allows fn_put_be_number ([], tt) (0x0102, (at_mut (7 ∷ 8 ∷ []), tt)) (tt, (tt, (2 ∷ 1 ∷ [], tt))) → ⊥
 put_be_number_little e = let z : ◌≡◌ {A = ℕ} 2 1 = cc in omega arith
 
 pub be_u16_settles : Settles fn_be_u16

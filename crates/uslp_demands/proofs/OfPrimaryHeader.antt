@@ -17,7 +17,7 @@ use Rattle.uslp_primary_header.specs.declared.PrimaryHeader.{PrimaryHeader}
 use Rattle.uslp_primary_header.specs.declared.HeaderAnswer.TheVariants as header_answer
 use Rattle.uslp_primary_header.proofs.RoundTrip.{header_one}
 use Rattle.uslp_primary_header.proofs as header
-use Rattle.uslp_demands.specs.Promise.{Function, function, at, Allows, Settles}
+use Rattle.uslp_demands.specs.Promise.{Function, function, at, at_mut, Allows, Settles}
 use Rattle.uslp_roundtrip.specs.Samples.{some, made}
 use Rattle.uslp_demands.proofs.Alike.{alike}
 
@@ -260,11 +260,11 @@ write_to_slice_settles = record {
 }
 
 -- writes nothing and says done
-pub write_to_slice_idle : Allows fn_write_to_slice ([], tt) (some, (at zeros, tt)) (length_answer.Done 8, (tt, (zeros, tt))) → ⊥
+pub write_to_slice_idle : Allows fn_write_to_slice ([], tt) (some, (at_mut zeros, tt)) (length_answer.Done 8, (tt, (zeros, tt))) → ⊥
 unfolding header_writing
 write_to_slice_idle e = let z : ◌≡◌ {A = ℕ} 0 0xC1 = cc in omega arith
 
 -- looks at the room before the fields
-pub write_to_slice_room_first : Allows fn_write_to_slice ([], tt) (wide, (at [], tt)) (length_answer.Refused (ShortTarget 0 16), (tt, ([], tt))) → ⊥
+pub write_to_slice_room_first : Allows fn_write_to_slice ([], tt) (wide, (at_mut [], tt)) (length_answer.Refused (ShortTarget 0 16), (tt, ([], tt))) → ⊥
 unfolding header_writing
 write_to_slice_room_first e = let z : ◌≡◌ {A = ℕ} 0 1 = cc in omega arith

@@ -35,7 +35,7 @@ use Rattle.uslp_form.proofs.Wrong as wrong
 use Rattle.uslp_saved.specs.Reading.{first_count, second_count, place_of}
 use Rattle.uslp_saved.proofs.Entries.{flags_read}
 use Rattle.uslp_saved.proofs as saved
-use Rattle.uslp_demands.specs.Promise.{Function, function, at, Allows, Settles, Program, Keeps}
+use Rattle.uslp_demands.specs.Promise.{Function, function, at, at_mut, Allows, Settles, Program, Keeps}
 use Rattle.uslp_demands.proofs.Alike.{alike, done_alike}
 
 -- the functions, each with its promise
@@ -63,41 +63,41 @@ restore_settles = record {
 abbrev zeros : List ℕ
 zeros = 0 ∷ 0 ∷ 0 ∷ 0 ∷ 0 ∷ 0 ∷ 0 ∷ 0 ∷ 0 ∷ 0 ∷ 0 ∷ 0 ∷ []
 
-pub save_unsorted : Allows fn_save ([], tt) (wrong.two, (One, (at zeros, tt)))
+pub save_unsorted : Allows fn_save ([], tt) (wrong.two, (One, (at_mut zeros, tt)))
     (length_answer.Done 10, (tt, (tt, (2 ∷ 0x12 ∷ 0x34 ∷ 5 ∷ 1 ∷ 0x12 ∷ 0x33 ∷ 63 ∷ 7 ∷ 0 ∷ 0 ∷ 0 ∷ [], tt)))) → ⊥
 unfolding saving says_all rows insert sorted
 save_unsorted e = let z : ◌≡◌ {A = ℕ} 0x34 0x33 = cc in omega arith
 
-pub save_flag_unsorted : Allows fn_save ([], tt) (wrong.mixed, (Two, (at zeros, tt)))
+pub save_flag_unsorted : Allows fn_save ([], tt) (wrong.mixed, (Two, (at_mut zeros, tt)))
     (length_answer.Done 12, (tt, (tt, (2 ∷ 0x12 ∷ 0x34 ∷ 5 ∷ 1 ∷ 1 ∷ 0x12 ∷ 0x34 ∷ 5 ∷ 0 ∷ 7 ∷ 0 ∷ [], tt)))) → ⊥
 unfolding saving says_all rows insert sorted
 save_flag_unsorted e = let z : ◌≡◌ {A = ℕ} 1 0 = cc in omega arith
 
-pub save_late_slot : Allows fn_save ([], tt) (wrong.twice, (One, (at zeros, tt)))
+pub save_late_slot : Allows fn_save ([], tt) (wrong.twice, (One, (at_mut zeros, tt)))
     (length_answer.Done 10, (tt, (tt, (2 ∷ 0x12 ∷ 0x34 ∷ 5 ∷ 1 ∷ 0x12 ∷ 0x34 ∷ 5 ∷ 7 ∷ 0 ∷ 0 ∷ 0 ∷ [], tt)))) → ⊥
 unfolding saving says_all rows insert sorted
 save_late_slot e = let z : ◌≡◌ {A = ℕ} 1 7 = cc in omega arith
 
-pub save_idle : Allows fn_save ([], tt) (wrong.two, (One, (at zeros, tt))) (length_answer.Done 10, (tt, (tt, (zeros, tt)))) → ⊥
+pub save_idle : Allows fn_save ([], tt) (wrong.two, (One, (at_mut zeros, tt))) (length_answer.Done 10, (tt, (tt, (zeros, tt)))) → ⊥
 unfolding saving says_all rows insert sorted
 save_idle e = let z : ◌≡◌ {A = ℕ} 0 2 = cc in omega arith
 
 -- what a program leaves that saves, as the definition sees it
 abbrev pub saver_of : Program fn_save → Form → ChannelRecord → List ℕ → Written ℕ
-saver_of f g r b = let x = f ([], tt) (r, (g, (at b, tt))) in leaving (paper_length x.0) x.1.1.1.0
+saver_of f g r b = let x = f ([], tt) (r, (g, (at_mut b, tt))) in leaving (paper_length x.0) x.1.1.1.0
 
 -- any program that keeps the promise of `save`
 module _ (f : Program fn_save) (keeps : Keeps fn_save f) (r : ChannelRecord) (b : List ℕ) where
   -- saving form 1, it answers 19 exactly if an open channel is expedited, whatever room there is, and then writes nothing
   pub lacks_answer : Expedited r → saver_of f One r b ≡ leaving (refused 19 []) b
-  lacks_answer x = keeps ([], tt) (r, (One, (at b, tt))) ∙ claims.saving_lacks One r b ((lacks_exactly r).1 x)
+  lacks_answer x = keeps ([], tt) (r, (One, (at_mut b, tt))) ∙ claims.saving_lacks One r b ((lacks_exactly r).1 x)
 
   pub lacks_only : {vs t : List ℕ} → saver_of f One r b ≡ leaving (refused 19 vs) t → Expedited r
-  lacks_only {vs} {t} e = claims.lacks_of r b (sym (keeps ([], tt) (r, (One, (at b, tt)))) ∙ e)
+  lacks_only {vs} {t} e = claims.lacks_of r b (sym (keeps ([], tt) (r, (One, (at_mut b, tt)))) ∙ e)
 
   -- saving form 2, it never does
   pub lacks_never : {vs t : List ℕ} → saver_of f Two r b ≡ leaving (refused 19 vs) t → ⊥
-  lacks_never {vs} {t} e = claims.saving_said Two r b (said_two r) (sym (keeps ([], tt) (r, (Two, (at b, tt)))) ∙ e)
+  lacks_never {vs} {t} e = claims.saving_said Two r b (said_two r) (sym (keeps ([], tt) (r, (Two, (at_mut b, tt)))) ∙ e)
 
   -- saving form 1 and dropping the flag
   pub no_flag_dropped : Expedited r → {n : ℕ} {t : List ℕ} → saver_of f One r b ≡ leaving (done n) t → ⊥

@@ -6,7 +6,7 @@ use native.Mathlib.Omega.{arith}
 use lib.ListN.{get_or}
 use Rattle.uslp_text.specs.Text.{width_in}
 use Rattle.uslp_text.proofs as text
-use Rattle.uslp_demands.specs.Promise.{Function, function, at, Allows, Settles}
+use Rattle.uslp_demands.specs.Promise.{Function, function, at, at_mut, Allows, Settles}
 use Rattle.uslp_demands.proofs.Alike.{alike}
 
 -- the functions, each with its promise
@@ -24,7 +24,7 @@ put_text_settles = record {
 }
 
 -- leaves out what has no room, and tells a place behind it
-pub put_text_out : Allows fn_put_text ([], ([], tt)) (at (1 ∷ 2 ∷ []), (at (7 ∷ []), (0, tt))) (1, (tt, (7 ∷ [], (tt, tt)))) → ⊥
+pub put_text_out : Allows fn_put_text ([], ([], tt)) (at (1 ∷ 2 ∷ []), (at_mut (7 ∷ []), (0, tt))) (1, (tt, (7 ∷ [], (tt, tt)))) → ⊥
 put_text_out e = let z : ◌≡◌ {A = ℕ} 7 1 = ap (λ (s : List ℕ). get_or s 0 0) e.stands in omega arith
 
 pub put_decimal_settles : Settles fn_put_decimal
@@ -35,10 +35,10 @@ put_decimal_settles = record {
 }
 
 -- tells nothing; tells a zero in front
-pub put_decimal_idle : Allows fn_put_decimal ([], tt) (7, (at (0 ∷ 0 ∷ []), (0, tt))) (0, (tt, (0 ∷ 0 ∷ [], (tt, tt)))) → ⊥
+pub put_decimal_idle : Allows fn_put_decimal ([], tt) (7, (at_mut (0 ∷ 0 ∷ []), (0, tt))) (0, (tt, (0 ∷ 0 ∷ [], (tt, tt)))) → ⊥
 unfolding width_in
 put_decimal_idle e = let z : ◌≡◌ {A = ℕ} 0 1 = e.ends in omega arith
 
-pub put_decimal_zero : Allows fn_put_decimal ([], tt) (7, (at (0 ∷ 0 ∷ []), (0, tt))) (2, (tt, (48 ∷ 55 ∷ [], (tt, tt)))) → ⊥
+pub put_decimal_zero : Allows fn_put_decimal ([], tt) (7, (at_mut (0 ∷ 0 ∷ []), (0, tt))) (2, (tt, (48 ∷ 55 ∷ [], (tt, tt)))) → ⊥
 unfolding width_in
 put_decimal_zero e = let z : ◌≡◌ {A = ℕ} 2 1 = e.ends in omega arith

@@ -7,7 +7,7 @@ use Rattle.uslp_primary_header.specs.Header.{header_reading}
 use Rattle.uslp_reader.specs.Reader.{frame_reading}
 use Rattle.uslp_writer.specs.Frame.{frame_writing}
 use Rattle.uslp_timing.proofs as timing
-use Rattle.uslp_demands.specs.Promise.{Function, function, at, Allows, Settles}
+use Rattle.uslp_demands.specs.Promise.{Function, function, at, at_mut, Allows, Settles}
 use Rattle.uslp_demands.proofs.Alike.{alike}
 
 -- the functions, each with its promise
@@ -38,7 +38,7 @@ pub timing_read_settles : Settles fn_timing_read
 timing_read_settles = record { total = λ κs a. tt; same = λ κs a x y s t. alike (s.0 ∙ sym t.0) (λ i. (tt, ((s.1 ∙ sym t.1) i, tt))) }
 
 -- takes anything for a frame
-pub timing_read_lax : Allows fn_timing_read ([], ([], tt)) (at [], (at [], tt)) (0, (tt, ([], tt))) → ⊥
+pub timing_read_lax : Allows fn_timing_read ([], ([], tt)) (at [], (at_mut [], tt)) (0, (tt, ([], tt))) → ⊥
 unfolding frame_reading header_reading
 timing_read_lax e = omega (arith, e.0)
 
@@ -50,7 +50,7 @@ timing_write_settles = record {
 }
 
 -- writes nothing and says that it did
-pub timing_write_idle : Allows fn_timing_write ([], ([], tt)) (0, (0, (0, (0, (0, (at [], (at [], tt)))))))
+pub timing_write_idle : Allows fn_timing_write ([], ([], tt)) (0, (0, (0, (0, (0, (at [], (at_mut [], tt)))))))
     (10, (tt, (tt, (tt, (tt, (tt, (tt, ([], tt)))))))) → ⊥
 unfolding frame_writing
 timing_write_idle e = omega (arith, e.0)

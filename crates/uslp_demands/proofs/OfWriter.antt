@@ -6,7 +6,7 @@ use mathlib.Core.List.{List, [], ◌∷◌}
 use Prim.Native.Nat.{ℕ}
 use native.Mathlib.Omega.{arith}
 use lib.ListN.{get_or}
-use denote.Ref.{Bor}
+use denote.Ref.{Bor, MutBor, as_bor}
 use Rattle.uslp_kinds.specs.Answers.{paper_length}
 use Rattle.uslp_kinds.proofs.Back.{back, one_to_one, length_back, leaving_one}
 use Rattle.uslp_kinds.proofs.Outcomes.{done_one}
@@ -19,7 +19,7 @@ use Rattle.uslp_writer.specs.declared.TransferFrameCreatorWithReservedData.{Tran
 use Rattle.uslp_writer.specs.declared.ReservedAnswer.TheVariants as reserved_answer
 use Rattle.uslp_writer.proofs.Paths.{reserved_back}
 use Rattle.uslp_writer.proofs as frame
-use Rattle.uslp_demands.specs.Promise.{Function, function, at, Allows, Settles, Shows}
+use Rattle.uslp_demands.specs.Promise.{Function, function, at, at_mut, Allows, Settles, Shows}
 use Rattle.uslp_roundtrip.specs.Samples.{plain, flagged_only, zeros}
 use Rattle.uslp_demands.proofs.Alike.{alike}
 
@@ -99,13 +99,13 @@ write_to_slice_settles = record {
 }
 
 -- writes nothing and says done
-pub write_to_slice_idle : Allows fn_write_to_slice ([], ([], tt)) (plain, (at (0x0A ∷ 0xF0 ∷ []), (at zeros, tt)))
+pub write_to_slice_idle : Allows fn_write_to_slice ([], ([], tt)) (plain, (at (0x0A ∷ 0xF0 ∷ []), (at_mut zeros, tt)))
     (length_answer.Done 10, (tt, (tt, (zeros, tt)))) → ⊥
 unfolding frame_writing
 write_to_slice_idle e = let z : ◌≡◌ {A = ℕ} 0 0xC1 = cc in omega arith
 
 -- writes a frame whose OCF flag has no OCF
-pub write_to_slice_lax : Allows fn_write_to_slice ([], ([], tt)) (flagged_only, (at [], (at [], tt)))
+pub write_to_slice_lax : Allows fn_write_to_slice ([], ([], tt)) (flagged_only, (at [], (at_mut [], tt)))
     (length_answer.Refused (ShortTarget 0 13), (tt, (tt, ([], tt)))) → ⊥
 unfolding frame_writing
 write_to_slice_lax e = let z : ◌≡◌ {A = ℕ} 0 1 = cc in omega arith
@@ -118,7 +118,7 @@ reserve_settles = record {
 }
 
 -- clears the data area
-pub reserve_cleared : Allows fn_new ([], tt) (plain, (2, (at (1 ∷ 1 ∷ 1 ∷ 1 ∷ 1 ∷ 1 ∷ 1 ∷ 1 ∷ 1 ∷ 1 ∷ []), tt))) (
+pub reserve_cleared : Allows fn_new ([], tt) (plain, (2, (at_mut (1 ∷ 1 ∷ 1 ∷ 1 ∷ 1 ∷ 1 ∷ 1 ∷ 1 ∷ 1 ∷ 1 ∷ []), tt))) (
   reserved_answer.Done (record { data_index = 8; data_size = 2; len_written = 10; has_fecf = false }),
   (tt, (tt, (0xC1 ∷ 0x23 ∷ 0x48 ∷ 0xA6 ∷ 0 ∷ 9 ∷ 0 ∷ 0xE4 ∷ 0 ∷ 0 ∷ [], tt))),
 ) → ⊥
@@ -126,7 +126,7 @@ unfolding reserving
 reserve_cleared e = let z : ◌≡◌ {A = ℕ} 0 1 = cc in omega arith
 
 -- says that the data start behind the primary header
-pub reserve_start : Allows fn_new ([], tt) (plain, (2, (at (1 ∷ 1 ∷ 1 ∷ 1 ∷ 1 ∷ 1 ∷ 1 ∷ 1 ∷ 1 ∷ 1 ∷ []), tt))) (
+pub reserve_start : Allows fn_new ([], tt) (plain, (2, (at_mut (1 ∷ 1 ∷ 1 ∷ 1 ∷ 1 ∷ 1 ∷ 1 ∷ 1 ∷ 1 ∷ 1 ∷ []), tt))) (
   reserved_answer.Done (record { data_index = 7; data_size = 2; len_written = 10; has_fecf = false }),
   (tt, (tt, (0xC1 ∷ 0x23 ∷ 0x48 ∷ 0xA6 ∷ 0 ∷ 9 ∷ 0 ∷ 0xE4 ∷ 1 ∷ 1 ∷ [], tt))),
 ) → ⊥
@@ -157,14 +157,14 @@ pub reserved_data_none : (r : Bor (List ℕ)) → r.now ≡ [] → Allows fn_dat
 unfolding finish_length
 reserved_data_none r h e = let z : ◌≡◌ {A = ℕ} 0 1 = cc in omega arith
 
-pub reserved_data_mut_shows : Shows fn_data_mut (λ κs a r. r)
+pub reserved_data_mut_shows : Shows fn_data_mut (λ κs a r. as_bor r)
 reserved_data_mut_shows = record { total = λ κs a. tt; same = λ κs a x y s t. (s.lies ∙ sym t.lies, s.shows ∙ sym t.shows) }
 
 -- the octet before the area, where it equals the area's first: a caller who writes through it would overwrite a header
 abbrev second : TransferFrameCreatorWithReservedData
 second = record { data_index = 1; data_size = 1; len_written = 2; has_fecf = false }
 
-pub reserved_data_mut_early : (r : Bor (List ℕ)) → r.ref_ptr ≡ (0, 0) → Allows fn_data_mut ([], tt) (second, (at (7 ∷ 7 ∷ []), tt)) (r, (tt, (tt, tt))) → ⊥
+pub reserved_data_mut_early : (r : MutBor (List ℕ)) → r.ref_ptr ≡ (0, 0) → Allows fn_data_mut ([], tt) (second, (at_mut (7 ∷ 7 ∷ []), tt)) (r, (tt, (tt, tt))) → ⊥
 unfolding finish_length
 reserved_data_mut_early r h e = let z : ◌≡◌ {A = ℕ} 0 1 = ap (λ (p : ℕ × ℕ). p.1) (sym h ∙ e.lies) in omega arith
 
@@ -177,11 +177,11 @@ fill_settles = record {
 }
 
 -- lays nothing; lays over the octets before the area
-pub fill_idle : Allows fn_fill ([], ([], tt)) (second, (at (9 ∷ []), (at (7 ∷ 7 ∷ []), tt))) (length_answer.Done 1, (tt, (tt, (7 ∷ 7 ∷ [], tt)))) → ⊥
+pub fill_idle : Allows fn_fill ([], ([], tt)) (second, (at (9 ∷ []), (at_mut (7 ∷ 7 ∷ []), tt))) (length_answer.Done 1, (tt, (tt, (7 ∷ 7 ∷ [], tt)))) → ⊥
 unfolding finish_length
 fill_idle e = let z : ◌≡◌ {A = ℕ} 7 9 = ap (λ (l : List ℕ). get_or l 1 0) (leaving_one e).1 in omega arith
 
-pub fill_early : Allows fn_fill ([], ([], tt)) (second, (at (9 ∷ []), (at (7 ∷ 7 ∷ []), tt))) (length_answer.Done 1, (tt, (tt, (9 ∷ 7 ∷ [], tt)))) → ⊥
+pub fill_early : Allows fn_fill ([], ([], tt)) (second, (at (9 ∷ []), (at_mut (7 ∷ 7 ∷ []), tt))) (length_answer.Done 1, (tt, (tt, (9 ∷ 7 ∷ [], tt)))) → ⊥
 unfolding finish_length
 fill_early e = let z : ◌≡◌ {A = ℕ} 9 7 = ap (λ (l : List ℕ). get_or l 0 0) (leaving_one e).1 in omega arith
 
@@ -193,11 +193,11 @@ finish_settles = record {
 }
 
 -- start plus size wrapped
-pub finish_wrapped : Allows fn_finish ([], tt) (huge, (at (1 ∷ 2 ∷ 3 ∷ 4 ∷ 5 ∷ 6 ∷ []), tt)) (length_answer.Done 6, (tt, (1 ∷ 2 ∷ 3 ∷ 4 ∷ 5 ∷ 6 ∷ [], tt))) → ⊥
+pub finish_wrapped : Allows fn_finish ([], tt) (huge, (at_mut (1 ∷ 2 ∷ 3 ∷ 4 ∷ 5 ∷ 6 ∷ []), tt)) (length_answer.Done 6, (tt, (1 ∷ 2 ∷ 3 ∷ 4 ∷ 5 ∷ 6 ∷ [], tt))) → ⊥
 unfolding finish_length
 finish_wrapped e = let z : ◌≡◌ {A = ℕ} 0 1 = cc in omega arith
 
 -- leaves the FECF out
-pub finish_unsealed : Allows fn_finish ([], tt) (sealing, (at (0x31 ∷ 0 ∷ 0 ∷ []), tt)) (length_answer.Done 3, (tt, (0x31 ∷ 0 ∷ 0 ∷ [], tt))) → ⊥
+pub finish_unsealed : Allows fn_finish ([], tt) (sealing, (at_mut (0x31 ∷ 0 ∷ 0 ∷ []), tt)) (length_answer.Done 3, (tt, (0x31 ∷ 0 ∷ 0 ∷ [], tt))) → ⊥
 unfolding finish_length checksum_of feed bits lows bit step
 finish_unsealed e = let z : ◌≡◌ {A = ℕ} 0 0xC7 = cc in omega arith

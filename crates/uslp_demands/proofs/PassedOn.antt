@@ -70,7 +70,7 @@ module _ (κs : Lfts 1) (s : Bor (List ℕ)) (managed : ManagedParameters) (r : 
       (one_to_one paper_hear (back hear_answer.Done hear_answer.Refused) hear_back k.0, k.1)
 
   pub lent_passes_on : (x : TransferFrameReader)
-      → Implies reader.from_bytes.ended (λ M. reader.from_bytes.clauses) κs (s, (managed, tt)) (x, (tt, (tt, tt))) (x.found.answer ≡ frame_answer.Refused r)
+      → Implies reader.from_bytes.ended (λ M 𝓤. reader.from_bytes.clauses) κs (s, (managed, tt)) (x, (tt, (tt, tt))) (x.found.answer ≡ frame_answer.Refused r)
   lent_passes_on x =
       implies _ _ (λ e. one_to_one paper_frame (back frame_answer.Done frame_answer.Refused) frame_back (e.1 ∙ sym reads))
 
@@ -100,42 +100,42 @@ module _ (s : Bor (List ℕ)) (r : Refusal) where
   refusing = record { raw = s; found = record { answer = frame_answer.Refused r } }
 
   pub answer_passes_on : (y : FrameAnswer)
-      → Implies reader.answer.ended (λ M. reader.answer.clauses) ([], tt) (refusing, tt) (y, (tt, tt)) (y ≡ frame_answer.Refused r)
+      → Implies reader.answer.ended (λ M 𝓤. reader.answer.clauses) ([], tt) (refusing, tt) (y, (tt, tt)) (y ≡ frame_answer.Refused r)
   answer_passes_on y = implies _ _ (λ e. e)
 
   pub len_frame_passes_on : (y : LengthAnswer)
-      → Implies reader.len_frame.ended (λ M. reader.len_frame.clauses) ([], tt) (refusing, tt) (y, (tt, tt)) (y ≡ length_answer.Refused r)
+      → Implies reader.len_frame.ended (λ M 𝓤. reader.len_frame.clauses) ([], tt) (refusing, tt) (y, (tt, tt)) (y ≡ length_answer.Refused r)
   len_frame_passes_on y = implies _ _ (λ e. one_to_one paper_length (back length_answer.Done length_answer.Refused) length_back e)
 
   pub primary_header_passes_on : (y : HeaderAnswer)
-      → Implies reader.primary_header.ended (λ M. reader.primary_header.clauses) ([], tt) (refusing, tt) (y, (tt, tt)) (y ≡ header_answer.Refused r)
+      → Implies reader.primary_header.ended (λ M 𝓤. reader.primary_header.clauses) ([], tt) (refusing, tt) (y, (tt, tt)) (y ≡ header_answer.Refused r)
   primary_header_passes_on y = implies _ _ (λ e. one_to_one paper_header (back header_answer.Done header_answer.Refused) header_one e)
 
   pub data_field_header_passes_on : (y : DataFieldHeaderAnswer)
-      → Implies reader.data_field_header.ended (λ M. reader.data_field_header.clauses) ([], tt) (refusing, tt) (y, (tt, tt)) (y ≡ field_answer.Refused r)
+      → Implies reader.data_field_header.ended (λ M 𝓤. reader.data_field_header.clauses) ([], tt) (refusing, tt) (y, (tt, tt)) (y ≡ field_answer.Refused r)
   data_field_header_passes_on y = implies _ _ (λ e. one_to_one paper_field (back field_answer.Done field_answer.Refused) field_back e)
 
   pub ocf_passes_on : (y : OcfAnswer)
-      → Implies reader.operational_control_field.ended (λ M. reader.operational_control_field.clauses) ([], tt) (refusing, tt) (y, (tt, tt))
+      → Implies reader.operational_control_field.ended (λ M 𝓤. reader.operational_control_field.clauses) ([], tt) (refusing, tt) (y, (tt, tt))
       (y ≡ ocf_answer.Refused r)
   ocf_passes_on y = implies _ _ (λ e. one_to_one paper_ocf (back ocf_answer.Done ocf_answer.Refused) ocf_back e)
 
   id_passes : (y : IdAnswer) → paper_id y ≡ paper_id (id_answer.Refused r) → y ≡ id_answer.Refused r
   id_passes y = one_to_one paper_id (back id_answer.Done id_answer.Refused) id_back
 
-  pub vc_id_passes_on : (y : IdAnswer) → Implies reader.vc_id.ended (λ M. reader.vc_id.clauses) ([], tt) (refusing, tt) (y, (tt, tt)) (y ≡ id_answer.Refused r)
+  pub vc_id_passes_on : (y : IdAnswer) → Implies reader.vc_id.ended (λ M 𝓤. reader.vc_id.clauses) ([], tt) (refusing, tt) (y, (tt, tt)) (y ≡ id_answer.Refused r)
   vc_id_passes_on y = implies _ _ (id_passes y)
 
   pub map_id_passes_on : (y : IdAnswer)
-      → Implies reader.map_id.ended (λ M. reader.map_id.clauses) ([], tt) (refusing, tt) (y, (tt, tt)) (y ≡ id_answer.Refused r)
+      → Implies reader.map_id.ended (λ M 𝓤. reader.map_id.clauses) ([], tt) (refusing, tt) (y, (tt, tt)) (y ≡ id_answer.Refused r)
   map_id_passes_on y = implies _ _ (id_passes y)
 
   pub spacecraft_id_passes_on : (y : IdAnswer)
-      → Implies reader.spacecraft_id.ended (λ M. reader.spacecraft_id.clauses) ([], tt) (refusing, tt) (y, (tt, tt)) (y ≡ id_answer.Refused r)
+      → Implies reader.spacecraft_id.ended (λ M 𝓤. reader.spacecraft_id.clauses) ([], tt) (refusing, tt) (y, (tt, tt)) (y ≡ id_answer.Refused r)
   spacecraft_id_passes_on y = implies _ _ (id_passes y)
 
   pub role_passes_on : (y : RoleAnswer)
-      → Implies reader.source_or_dest_field.ended (λ M. reader.source_or_dest_field.clauses) ([], tt) (refusing, tt) (y, (tt, tt)) (y ≡ role_answer.Refused r)
+      → Implies reader.source_or_dest_field.ended (λ M 𝓤. reader.source_or_dest_field.clauses) ([], tt) (refusing, tt) (y, (tt, tt)) (y ≡ role_answer.Refused r)
   role_passes_on y = implies _ _ (λ e. one_to_one paper_role (back role_answer.Done role_answer.Refused) role_back e)
 
 -- where the intake stops, the reader refuses what is held with that refusal

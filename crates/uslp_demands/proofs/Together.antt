@@ -16,7 +16,7 @@ use Rattle.uslp_counting.specs.Restarts.Restart.{resumes as goes_on, refuses as 
 use Rattle.uslp_counting.specs.Live.{Demand3Live}
 use Rattle.uslp_counting.proofs.Restarts.{leads_mono}
 use Rattle.uslp_counting.proofs.Live.{live}
-use Rattle.uslp_demands.specs.Promise.{at, Program, Keeps}
+use Rattle.uslp_demands.specs.Promise.{at_mut, Program, Keeps}
 use Rattle.uslp_demands.proofs.OfHearing.{fn_hear}
 use Rattle.uslp_demands.proofs.OfIntake.{fn_take_block}
 use Rattle.uslp_demands.proofs.OfSaved.{fn_save, fn_restore, saver_of, restorer_of, restores}
@@ -39,7 +39,7 @@ module _ (s : Program fn_save) (c : Program fn_convert) (t : Program fn_restore)
   module _ (save : Keeps fn_save s) (convert : Keeps fn_convert c) (restore : Keeps fn_restore t) where
     saving_by : {r : ChannelRecord} {f : Form} {o : List ℕ} → SavingBy r f o → SavingOf r f o
     saving_by {r} (wrote {f = f} b left n fit e) =
-        was_written fit (record { buffer = b; left = left; count = n; saves = sym (save ([], tt) (r, (f, (at b, tt)))) ∙ e; octets = refl })
+        was_written fit (record { buffer = b; left = left; count = n; saves = sym (save ([], tt) (r, (f, (at_mut b, tt)))) ∙ e; octets = refl })
     saving_by (converted {f = f} {g = g} {o = o} h b left n e) =
         was_converted (saving_by h)
         (record { buffer = b; left = left; count = n; converts = subst (Converting f g o b) e (converts c convert f g o b); octets = refl })

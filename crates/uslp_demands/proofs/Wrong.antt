@@ -47,7 +47,7 @@ use Rattle.uslp_intake.proofs.Calls.{stop_stops}
 use Rattle.uslp_cutting.proofs.Cutting.{cutting, from_nothing}
 use Rattle.uslp_counting.specs.Blocks.{Demand3InBlocks}
 use Rattle.uslp_counting.proofs.Blocks.{in_blocks}
-use Rattle.uslp_demands.specs.Promise.{at, Program, Keeps}
+use Rattle.uslp_demands.specs.Promise.{at, at_mut, Program, Keeps}
 use Rattle.uslp_demands.proofs.OfWriter.{fn_write_to_slice}
 use Rattle.uslp_demands.proofs.OfReader.{fn_from_bytes}
 use Rattle.uslp_demands.proofs.OfIntake.{fn_take_block}
@@ -60,7 +60,7 @@ reader_of f s managed = paper_frame (f ([], tt) (at s, (managed, tt))).0
 
 abbrev pub writer_of : Program fn_write_to_slice → frames.Writer
 writer_of f c d s =
-    leaving (paper_length (f ([], ([], tt)) (c, (at d, (at s, tt)))).0) (f ([], ([], tt)) (c, (at d, (at s, tt)))).1.1.1.0
+    leaving (paper_length (f ([], ([], tt)) (c, (at d, (at_mut s, tt)))).0) (f ([], ([], tt)) (c, (at d, (at_mut s, tt)))).1.1.1.0
 
 abbrev pub hearer_of : Program fn_hear → histories.Hearer
 hearer_of f r s managed = keeping (paper_hear (f ([], tt) (r, (at s, (managed, tt)))).0.answer) (f ([], tt) (r, (at s, (managed, tt)))).0.next
@@ -76,7 +76,7 @@ reader_unequal f k s oct managed a b =
     (refused_exactly s oct managed a b)
 
 pub writer_demand : (f : Program fn_write_to_slice) → Keeps fn_write_to_slice f → frames.Demand2Writer (writer_of f)
-writer_demand f k = subst frames.Demand2Writer (λ i c d s. sym (k ([], ([], tt)) (c, (at d, (at s, tt)))) i) writes
+writer_demand f k = subst frames.Demand2Writer (λ i c d s. sym (k ([], ([], tt)) (c, (at d, (at_mut s, tt)))) i) writes
 
 pub hearer_demand_over : (f : Program fn_hear) → Keeps fn_hear f → Demand3Over Restart channel_of (hearer_of f)
 hearer_demand_over f k = subst (Demand3Over Restart channel_of) (λ i r s managed. sym (k ([], tt) (r, (at s, (managed, tt)))) i) (counted_over channel_of)
@@ -108,11 +108,11 @@ many_stands f k g l K r s managed =
 -- whatever keeps the intake's promise gives the same for octets cut anyhow, and what stops it goes on to stop it
 abbrev pub intake_of : Program fn_take_block → Call
 intake_of f managed s held block =
-    let x = f ([], ([], tt)) (at s, (held, (at block, (managed, tt)))) in
+    let x = f ([], ([], tt)) (at_mut s, (held, (at block, (managed, tt)))) in
     leaving (paper_intake x.0) x.1.0
 
 intake_promised : (f : Program fn_take_block) → Keeps fn_take_block f → Promised (intake_of f)
-intake_promised f k managed s held block = k ([], ([], tt)) (at s, (held, (at block, (managed, tt))))
+intake_promised f k managed s held block = k ([], ([], tt)) (at_mut s, (held, (at block, (managed, tt))))
 
 pub intake_cutting : (f : Program fn_take_block) → Keeps fn_take_block f → (managed : ManagedParameters) (s : List ℕ) (held : ℕ) → NoFrameYet managed s held
     → (blocks : List (List ℕ)) (p : Passage) → AreOctets (one_block blocks)
@@ -148,7 +148,7 @@ unfolding header_checking field_checking
 plain_passes = (refl, refl)
 
 pub no_wrapper : (f : Program fn_write_to_slice) → Keeps fn_write_to_slice f → (d s : List ℕ) → length d ≡ 65529
-    → (n : ℕ) → paper_length (f ([], ([], tt)) (plain, (at d, (at s, tt)))).0 ≡ done n → ⊥
+    → (n : ℕ) → paper_length (f ([], ([], tt)) (plain, (at d, (at_mut s, tt)))).0 ≡ done n → ⊥
 no_wrapper f k d s long n e =
     let refused = writing_refused plain d s (length_long plain (length d) plain_passes.0 plain_passes.1 refl (omega arith)) in
-    not_done (sym (leaving_one (k ([], ([], tt)) (plain, (at d, (at s, tt))) ∙ refused)).0 ∙ e)
+    not_done (sym (leaving_one (k ([], ([], tt)) (plain, (at d, (at_mut s, tt))) ∙ refused)).0 ∙ e)

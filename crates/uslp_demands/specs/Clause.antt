@@ -1,5 +1,5 @@
--- What it is for a promise to settle a call, and to shut an outcome out, where the checker reads none off the source: a function over a lent
--- struct, or over a struct that holds a reference. The words are those of `Promise.antt`, said of the function's clauses at every model.
+-- What it is for a promise to settle a call, and to shut an outcome out, said of the function's clauses themselves, at every model: so of the
+-- functions over a lent struct, or over a struct that holds a reference. The words are those of `Promise.antt`.
 use Rattle.std.specs.Prelude.{ℕ, ◌≡◌, List}
 use seplogic.Ra.Ura.{Ura}
 use base.Logic.{SProp, ent, emp}

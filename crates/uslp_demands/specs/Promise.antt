@@ -2,7 +2,7 @@
 -- `requires`, `post` its `ensures`.
 use Rattle.std.specs.Prelude.{ℕ, ◌≡◌, List}
 use contract.Lifetimes.{Lfts}
-use Rattle.std.specs.Borrow.{Bor}
+use Rattle.std.specs.Borrow.{Bor, MutBor}
 use denote.Triple.Entry.{Args, Res}
 use denote.Triple.Clauses.{Ended, Lasts, at_exit}
 use borrow.Fn.Kind.{ParamKind, ResultKind}
@@ -11,6 +11,10 @@ use borrow.Fn.Kinds.{In, Out, Dens, res_t, ended_of}
 -- a slice that holds these octets
 abbrev pub at : List ℕ → Bor (List ℕ)
 at s = record { ref_ptr = (0, 0); now = s }
+
+-- and one that is lent for writing
+abbrev pub at_mut : List ℕ → MutBor (List ℕ)
+at_mut s = record { ref_ptr = (0, 0); ghost_name = 0; now = s }
 
 -- two parts of what was lent that are one: they lie at the same place and show the same
 abbrev pub SamePart : Bor (List ℕ) → Bor (List ℕ) → Type 0
