@@ -1,4 +1,4 @@
-// The work of the reader's functions, on its two fields. Each takes both, as the walk over the reader hands them.
+// The work of the reader's functions, on its two fields: each takes both.
 ghost use Rattle.std.specs.Prelude.{◌≡◌};
 ghost use Rattle.uslp_octets.specs.Octets.{PartOf};
 ghost use Rattle.uslp_kinds.specs.Answers.{paper_length};

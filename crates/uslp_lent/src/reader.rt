@@ -21,7 +21,7 @@ pub struct FrameFound {
     pub answer: FrameAnswer,
 }
 
-// Stands on a refusal too, since no enum can hold a reference: `answer` says which it is.
+// Stands on a refusal too, so that it shows the octets that it was given: `answer` says which it is.
 #[derive(Clone, Copy)]
 pub struct TransferFrameReader<'a> {
     pub raw: &'a [u8],
@@ -131,7 +131,7 @@ impl<'a> TransferFrameReader<'a> {
     }
 }
 
-// Plain parameters and a plain result: whoever calls this needs no walk.
+// Plain parameters and a plain result.
 pub fn frame_data<'a>(buf: &'a [u8], managed: ManagedParameters) -> &'a [u8]
     ensures { PartOf buf.entry
         (contents_read_at (frame_reading buf.now managed) buf.now)

@@ -1,4 +1,4 @@
-// Setters over a header lent for writing: thin, each stores what a covered function on the header by value decided.
+// Setters over a header lent for writing: thin, each stores what a function over the header by value decided.
 ghost use Rattle.std.specs.Prelude.{◌≡◌};
 ghost use Rattle.uslp_kinds.specs.Answers.{paper_done};
 ghost use Rattle.uslp_primary_header.specs.Header.{paper_header, count_setting, length_setting};
