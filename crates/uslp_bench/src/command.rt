@@ -193,7 +193,11 @@ fn act_on_channels<W: Write>(
         RESTORE => restore(out, Form::One, data, channels),
         SAVE2 => save(out, Form::Two, values, channels),
         RESTORE2 => restore(out, Form::Two, data, channels),
-        MANY => many(out, data, managed(values), channels),
+        MANY => {
+            let mut next = channels;
+            many(out, data, managed(values), &mut next)?;
+            Ok(next)
+        }
         _ => Ok(channels),
     }
 }
@@ -207,7 +211,11 @@ fn act_on_intake<W: Write>(
     held: usize,
 ) -> io::Result<usize> {
     match command {
-        FEED => feed(out, holding, held, data, managed(values)),
+        FEED => {
+            let mut after = held;
+            feed(out, holding, &mut after, data, managed(values))?;
+            Ok(after)
+        }
         DROP => {
             say_zero(out)?;
             Ok(0)

@@ -31,7 +31,7 @@ struct Bench {
     held: usize,
 }
 
-// Answers standard input to its end. The answers to a block are out before the next is waited for.
+// Answers standard input to its end, or to a read that fails. The answers to a block are out before the next is waited for.
 pub fn run<R: Input + Print + Alloc>(rt: &R) -> io::Result<()> {
     let mut input = rt.reader();
     let mut out = BufWriter::new(rt.alloc(), io::writer(rt))?;
@@ -43,16 +43,21 @@ pub fn run<R: Input + Print + Alloc>(rt: &R) -> io::Result<()> {
         in_intake: 0,
         held: 0,
     };
+    let mut ended = Ok(());
     for _ in 0..u64::MAX {
-        let n = input.read(&mut block)?;
-        if n == 0 {
-            break;
+        match input.read(&mut block) {
+            Ok(0) => break,
+            Ok(n) => bench = answer_lines(&mut out, &block[..n], bench, &mut line, &mut holding)?,
+            Err(error) => {
+                ended = Err(error);
+                break;
+            }
         }
-        bench = answer_lines(&mut out, &block[..n], bench, &mut line, &mut holding)?;
         out.flush()?;
     }
     answer_last(&mut out, bench, &mut line, &mut holding)?;
-    out.flush()
+    out.flush()?;
+    ended
 }
 
 // What stands behind the last line feed is a line too.

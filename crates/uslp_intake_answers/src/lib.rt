@@ -1,7 +1,7 @@
 // What the bench says of a block that the intake takes, and how many octets are held after it.
 #![tactic(auto)]
 
-ghost use Rattle.std.specs.Prelude.{◌≡◌, IfOk};
+ghost use Rattle.std.specs.Prelude.{◌≡◌};
 ghost use Rattle.uslp_intake.specs.Intake.{intaking};
 ghost use Rattle.uslp_intake_answers.specs.Fed.{fed};
 
@@ -16,16 +16,15 @@ use uslp_reader::TransferFrame;
 pub fn feed<W: Write>(
     out: &mut W,
     holding: &mut [u8],
-    held: usize,
+    held: &mut usize,
     block: &[u8],
     managed: ManagedParameters,
-) -> io::Result<usize>
-    ensures held { IfOk result (λ after. fed held (intaking managed holding.old held block.now) ≡ (after, holding.new)) }
-    ensures holding { (fed held (intaking managed holding.old held block.now)).1 ≡ holding.new }
+) -> io::Result<()>
+    ensures { fed held.old (intaking managed holding.old held.old block.now) ≡ (held.new, holding.new) }
 {
-    let answer = take_block(holding, held, block, managed);
-    say_intake(out, answer, holding)?;
-    Ok(answer.held(held))
+    let answer = take_block(holding, *held, block, managed);
+    *held = answer.held(*held);
+    say_intake(out, answer, holding)
 }
 
 fn say_intake<W: Write>(out: &mut W, answer: IntakeAnswer, holding: &[u8]) -> io::Result<()> {

@@ -1,7 +1,7 @@
 // What the bench says of frames heard in one call, and the record after it.
 #![tactic(auto)]
 
-ghost use Rattle.std.specs.Prelude.{◌≡◌, IfOk};
+ghost use Rattle.std.specs.Prelude.{◌≡◌};
 ghost use Rattle.uslp_end_to_end.specs.Many.{many_hearing};
 
 use std::io;
@@ -17,18 +17,18 @@ pub fn many<W: Write>(
     out: &mut W,
     octets: &[u8],
     managed: ManagedParameters,
-    channels: ChannelRecord,
-) -> io::Result<ChannelRecord>
-    ensures { IfOk result (λ next. next ≡ (many_hearing channels octets.now managed).next) }
+    channels: &mut ChannelRecord,
+) -> io::Result<()>
+    ensures { channels.new ≡ (many_hearing channels.old octets.now managed).next }
 {
-    let hearing = hear_many(channels, octets, managed);
+    let hearing = hear_many(*channels, octets, managed);
+    *channels = hearing.next;
     let tally = hearing.tally;
     let stop = hearing.stop;
     say_zero(out)?;
     say_field(out, hearing.place as u64)?;
     say_tally(out, tally)?;
-    say_stop(out, stop)?;
-    Ok(hearing.next)
+    say_stop(out, stop)
 }
 
 fn say_tally<W: Write>(out: &mut W, tally: Tally) -> io::Result<()> {
