@@ -106,7 +106,7 @@ lacks_of r b {vs} {t} e = go (says_all One r.slots) refl
     go true w = absurd (saving_said One r b w e)
     go false w = (lacks_exactly r).0 w
 
--- restoring: done exactly if the octets are a good form, and then with the record of its entries (`restores-done` is the way back)
+-- restoring: done exactly if the octets are a good form, and then with the record of its entries (`restores_done` is the way back)
 module _ (f : Form) (r : ChannelRecord) (s : List ℕ) where
   pub restoring_good : (us hs : List SlotState) (o : Kept (Unit {0})) → GoodForm f s us hs → Restoring f r s o → o ≡ keeping (done tt) (restored (us ++ hs))
   restoring_good us hs o g (good vs gs k) =
