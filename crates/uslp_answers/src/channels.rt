@@ -2,22 +2,21 @@
 use crate::{say, say_data, say_field, say_refusal, say_zero};
 use std::io;
 use std::io::Write;
-use uslp_hearing::{FrameArrival, HearAnswer};
-use uslp_kinds::DoneAnswer;
+use uslp_hearing::{FrameArrival};
 use uslp_reader::TransferFrame;
-use uslp_record::{SlotState, StateAnswer, TotalAnswer, Totals};
+use uslp_record::{SlotState, Totals};
 
-pub fn say_done<W: Write>(out: &mut W, answer: DoneAnswer) -> io::Result<()> {
+pub fn say_done<W: Write>(out: &mut W, answer: Result<(), Refusal>) -> io::Result<()> {
     match answer {
-        DoneAnswer::Done => say_zero(out),
-        DoneAnswer::Refused(refusal) => say_refusal(out, refusal),
+        Ok(()) => say_zero(out),
+        Err(refusal) => say_refusal(out, refusal),
     }
 }
 
-pub fn say_heard<W: Write>(out: &mut W, answer: HearAnswer, octets: &[u8]) -> io::Result<()> {
+pub fn say_heard<W: Write>(out: &mut W, answer: Result<FrameArrival, Refusal>, octets: &[u8]) -> io::Result<()> {
     match answer {
-        HearAnswer::Done(arrival) => say_arrival(out, arrival, octets),
-        HearAnswer::Refused(refusal) => say_refusal(out, refusal),
+        Ok(arrival) => say_arrival(out, arrival, octets),
+        Err(refusal) => say_refusal(out, refusal),
     }
 }
 
@@ -35,10 +34,10 @@ fn say_new<W: Write>(out: &mut W, gap: u64, frame: TransferFrame, octets: &[u8])
     say_data(out, frame.data(octets))
 }
 
-pub fn say_state<W: Write>(out: &mut W, answer: StateAnswer) -> io::Result<()> {
+pub fn say_state<W: Write>(out: &mut W, answer: Result<SlotState, Refusal>) -> io::Result<()> {
     match answer {
-        StateAnswer::Done(state) => say_slot(out, state),
-        StateAnswer::Refused(refusal) => say_refusal(out, refusal),
+        Ok(state) => say_slot(out, state),
+        Err(refusal) => say_refusal(out, refusal),
     }
 }
 
@@ -70,12 +69,12 @@ fn say_totals<W: Write>(out: &mut W, totals: Totals) -> io::Result<()> {
     say_field(out, totals.late)
 }
 
-pub fn say_total<W: Write>(out: &mut W, answer: TotalAnswer) -> io::Result<()> {
+pub fn say_total<W: Write>(out: &mut W, answer: Result<u64, Refusal>) -> io::Result<()> {
     match answer {
-        TotalAnswer::Done(missing) => {
+        Ok(missing) => {
             say_zero(out)?;
             say_field(out, missing)
         }
-        TotalAnswer::Refused(refusal) => say_refusal(out, refusal),
+        Err(refusal) => say_refusal(out, refusal),
     }
 }

@@ -5,21 +5,19 @@ use crate::values::{
 };
 use uslp_data_field_header::TransferFrameDataFieldHeader;
 use uslp_kinds::{
-    BypassSequenceControlFlag, ConstructionRule, FhpOrLvo, OperationalControlField,
-    ProtocolControlCommandFlag, SourceOrDestField, UslpProtocolId,
-};
+    BypassSequenceControlFlag, ConstructionRule, ProtocolControlCommandFlag, SourceOrDestField, UslpProtocolId};
 use uslp_primary_header::PrimaryHeader;
 use uslp_writer::TransferFrameCreator;
 
 pub(crate) fn header_of(values: &Values) -> PrimaryHeader {
     PrimaryHeader {
         spacecraft_id: (values[SCID] % 65536) as u16,
-        source_or_dest_field: SourceOrDestField::from_number(octet_of(values[DEST])),
+        source_or_dest_field: SourceOrDestField::from(octet_of(values[DEST])),
         vc_id: octet_of(values[VC]),
         map_id: octet_of(values[MAP]),
         frame_len_field: 0,
-        sequence_control_flag: BypassSequenceControlFlag::from_number(octet_of(values[BYPASS])),
-        protocol_control_command_flag: ProtocolControlCommandFlag::from_number(octet_of(
+        sequence_control_flag: BypassSequenceControlFlag::from(octet_of(values[BYPASS])),
+        protocol_control_command_flag: ProtocolControlCommandFlag::from(octet_of(
             values[PCC],
         )),
         ocf_flag: values[OCF_FLAG] == 1,
@@ -31,7 +29,7 @@ pub(crate) fn header_of(values: &Values) -> PrimaryHeader {
 pub(crate) fn frame_of(values: &Values, id: UslpProtocolId) -> TransferFrameCreator {
     let header = header_of(values);
     let field = TransferFrameDataFieldHeader {
-        construction_rule: ConstructionRule::from_number(octet_of(values[RULE])),
+        construction_rule: ConstructionRule::from(octet_of(values[RULE])),
         uslp_protocol_id: id,
         fhp_or_lvo: pointer_of(values[PTR]),
     };
@@ -43,16 +41,16 @@ pub(crate) fn frame_of(values: &Values, id: UslpProtocolId) -> TransferFrameCrea
     }
 }
 
-fn pointer_of(value: u64) -> FhpOrLvo {
+fn pointer_of(value: u64) -> Option<u16> {
     if value == NONE {
-        return FhpOrLvo::Absent;
+        return None;
     }
-    FhpOrLvo::Present((value % 65536) as u16)
+    Some((value % 65536) as u16)
 }
 
-fn ocf_of(value: u64) -> OperationalControlField {
+fn ocf_of(value: u64) -> Option<u32> {
     if value == NONE {
-        return OperationalControlField::Absent;
+        return None;
     }
-    OperationalControlField::Present((value % 4294967296) as u32)
+    Some((value % 4294967296) as u32)
 }

@@ -4,7 +4,7 @@
 use std::io;
 use std::io::Write;
 use uslp_data_field_header::TransferFrameDataFieldHeader;
-use uslp_kinds::{FhpOrLvo, LengthAnswer, OperationalControlField, Refusal};
+use uslp_kinds::{Refusal};
 use uslp_primary_header::PrimaryHeader;
 
 pub mod channels;
@@ -82,16 +82,16 @@ pub fn say_refusal<W: Write>(out: &mut W, refusal: Refusal) -> io::Result<()> {
 // How many octets were written, and the whole buffer.
 pub(crate) fn say_written<W: Write>(
     out: &mut W,
-    answer: LengthAnswer,
+    answer: Result<usize, Refusal>,
     buf: &[u8],
 ) -> io::Result<()> {
     match answer {
-        LengthAnswer::Done(n) => {
+        Ok(n) => {
             say_zero(out)?;
             say_field(out, n as u64)?;
             say_data(out, buf)
         }
-        LengthAnswer::Refused(refusal) => say_refusal(out, refusal),
+        Err(refusal) => say_refusal(out, refusal),
     }
 }
 
@@ -121,14 +121,14 @@ pub(crate) fn say_field_header<W: Write>(
     say_field(out, rule.number() as u64)?;
     say_field(out, id.number() as u64)?;
     match pointer {
-        FhpOrLvo::Absent => say_none(out),
-        FhpOrLvo::Present(value) => say_field(out, value as u64),
+        None => say_none(out),
+        Some(value) => say_field(out, value as u64),
     }
 }
 
-pub(crate) fn say_ocf<W: Write>(out: &mut W, ocf: OperationalControlField) -> io::Result<()> {
+pub(crate) fn say_ocf<W: Write>(out: &mut W, ocf: Option<u32>) -> io::Result<()> {
     match ocf {
-        OperationalControlField::Absent => say_none(out),
-        OperationalControlField::Present(value) => say_field(out, value as u64),
+        None => say_none(out),
+        Some(value) => say_field(out, value as u64),
     }
 }

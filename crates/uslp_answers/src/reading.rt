@@ -3,10 +3,10 @@ use crate::{say_data, say_field_header, say_header, say_number, say_ocf, say_ref
 use std::io;
 use std::io::Write;
 use uslp_checksum::checksum;
-use uslp_data_field_header::{DataFieldHeaderAnswer, TransferFrameDataFieldHeader};
+use uslp_data_field_header::{TransferFrameDataFieldHeader};
 use uslp_kinds::ManagedParameters;
-use uslp_primary_header::{HeaderAnswer, PrimaryHeader};
-use uslp_reader::{FrameAnswer, TransferFrame};
+use uslp_primary_header::{PrimaryHeader};
+use uslp_reader::{TransferFrame};
 
 pub fn crc<W: Write>(out: &mut W, octets: &[u8]) -> io::Result<()> {
     say_number(out, checksum(octets) as u64)
@@ -14,28 +14,28 @@ pub fn crc<W: Write>(out: &mut W, octets: &[u8]) -> io::Result<()> {
 
 pub fn hr<W: Write>(out: &mut W, octets: &[u8]) -> io::Result<()> {
     match PrimaryHeader::from_bytes(octets) {
-        HeaderAnswer::Done(header) => {
+        Ok(header) => {
             say_zero(out)?;
             say_header(out, header)
         }
-        HeaderAnswer::Refused(refusal) => say_refusal(out, refusal),
+        Err(refusal) => say_refusal(out, refusal),
     }
 }
 
 pub fn dr<W: Write>(out: &mut W, octets: &[u8]) -> io::Result<()> {
     match TransferFrameDataFieldHeader::from_bytes(octets) {
-        DataFieldHeaderAnswer::Done(header) => {
+        Ok(header) => {
             say_zero(out)?;
             say_field_header(out, header)
         }
-        DataFieldHeaderAnswer::Refused(refusal) => say_refusal(out, refusal),
+        Err(refusal) => say_refusal(out, refusal),
     }
 }
 
 pub fn fr<W: Write>(out: &mut W, octets: &[u8], managed: ManagedParameters) -> io::Result<()> {
     match TransferFrame::from_bytes(octets, managed) {
-        FrameAnswer::Done(frame) => say_frame(out, frame, octets),
-        FrameAnswer::Refused(refusal) => say_refusal(out, refusal),
+        Ok(frame) => say_frame(out, frame, octets),
+        Err(refusal) => say_refusal(out, refusal),
     }
 }
 

@@ -7,11 +7,11 @@ use crate::{say_bad, say_refusal, say_written};
 use std::io;
 use std::io::Write;
 use uslp_form::Form;
-use uslp_kinds::{LengthAnswer, ProtocolIdAnswer, UslpProtocolId};
+use uslp_kinds::{UslpProtocolId};
 use uslp_octets::copy_octets;
-use uslp_primary_header::{HeaderAnswer, PrimaryHeader};
+use uslp_primary_header::{PrimaryHeader};
 use uslp_record::ChannelRecord;
-use uslp_writer::{ReservedAnswer, TransferFrameCreator, TransferFrameCreatorWithReservedData};
+use uslp_writer::{TransferFrameCreator, TransferFrameCreatorWithReservedData};
 
 // A buffer as a command finds it. Apart, so that no other proof computes on so long an array.
 fn fresh() -> [u8; BUF_ROOM]
@@ -29,16 +29,16 @@ fn front(octets: &mut [u8], len: usize) -> &mut [u8] {
 
 pub fn hw<W: Write>(out: &mut W, values: &Values) -> io::Result<()> {
     match whole_header(header_of(values), values[TOTAL] as usize) {
-        HeaderAnswer::Refused(refusal) => say_refusal(out, refusal),
-        HeaderAnswer::Done(header) => write_header(out, header, values[BUFLEN] as usize),
+        Err(refusal) => say_refusal(out, refusal),
+        Ok(header) => write_header(out, header, values[BUFLEN] as usize),
     }
 }
 
 // A header that cannot be written is told before a length that is too long.
-fn whole_header(header: PrimaryHeader, total: usize) -> HeaderAnswer {
+fn whole_header(header: PrimaryHeader, total: usize) -> Result<PrimaryHeader, Refusal> {
     match header.checked() {
-        HeaderAnswer::Refused(refusal) => HeaderAnswer::Refused(refusal),
-        HeaderAnswer::Done(checked) => checked.with_frame_len(total),
+        Err(refusal) => Err(refusal),
+        Ok(checked) => checked.with_frame_len(total),
     }
 }
 
@@ -54,9 +54,9 @@ pub fn fw<W: Write>(out: &mut W, values: &Values, data: &[u8], reserved: bool) -
     if values[RULE] > 7 {
         return say_bad(out, b"rule");
     }
-    match UslpProtocolId::from_number(octet_of(values[PID])) {
-        ProtocolIdAnswer::Refused(_) => say_bad(out, b"pid"),
-        ProtocolIdAnswer::Done(id) => write_frame(
+    match UslpProtocolId::try_from(octet_of(values[PID])) {
+        Err(_) => say_bad(out, b"pid"),
+        Ok(id) => write_frame(
             out,
             frame_of(values, id),
             data,
@@ -84,22 +84,22 @@ fn written(
     data: &[u8],
     buf: &mut [u8],
     reserved: bool,
-) -> LengthAnswer {
+) -> Result<usize, Refusal> {
     if reserved {
         return write_reserved(frame, data, buf);
     }
     frame.write_to_slice(data, buf)
 }
 
-fn write_reserved(frame: TransferFrameCreator, data: &[u8], buf: &mut [u8]) -> LengthAnswer {
+fn write_reserved(frame: TransferFrameCreator, data: &[u8], buf: &mut [u8]) -> Result<usize, Refusal> {
     match TransferFrameCreatorWithReservedData::new(frame, data.len(), buf) {
-        ReservedAnswer::Refused(refusal) => LengthAnswer::Refused(refusal),
-        ReservedAnswer::Done(area) => fill(area, data, buf),
+        Err(refusal) => Err(refusal),
+        Ok(area) => fill(area, data, buf),
     }
 }
 
 // Through `data_mut`, so that it is tried.
-fn fill(area: TransferFrameCreatorWithReservedData, data: &[u8], buf: &mut [u8]) -> LengthAnswer {
+fn fill(area: TransferFrameCreatorWithReservedData, data: &[u8], buf: &mut [u8]) -> Result<usize, Refusal> {
     copy_octets(data, area.data_mut(buf));
     area.finish(buf)
 }

@@ -88,6 +88,6 @@ fn channel_of(values: &Values) -> Channel {
     Channel {
         spacecraft_id: (values[SCID] % 65536) as u16,
         vc_id: octet_of(values[VC]),
-        sequence_control_flag: BypassSequenceControlFlag::from_number(octet_of(values[BYPASS])),
+        sequence_control_flag: BypassSequenceControlFlag::from(octet_of(values[BYPASS])),
     }
 }

@@ -4,12 +4,11 @@
 use std::io;
 use uslp_data_field_header::TransferFrameDataFieldHeader;
 use uslp_kinds::{
-    BypassSequenceControlFlag, ConstructionRule, FhpOrLvo, LengthAnswer, ManagedParameters,
-    NO_FECF, OperationalControlField, ProtocolControlCommandFlag, SourceOrDestField,
-    UslpProtocolId, WITH_FECF,
-};
-use uslp_primary_header::{HeaderAnswer, PrimaryHeader};
-use uslp_reader::{FrameAnswer, TransferFrame};
+    BypassSequenceControlFlag, ConstructionRule, ManagedParameters,
+    NO_FECF, ProtocolControlCommandFlag, SourceOrDestField,
+    UslpProtocolId, WITH_FECF};
+use uslp_primary_header::{PrimaryHeader};
+use uslp_reader::{TransferFrame};
 use uslp_writer::TransferFrameCreator;
 
 fn main(rt: HostRuntime) -> io::Result<()> {
@@ -45,11 +44,11 @@ fn say(rt: &impl Print, what: &str, answer: u8) -> io::Result<()> {
 
 fn read(rt: &impl Print, what: &str, octets: &[u8], managed: ManagedParameters) -> io::Result<()> {
     match TransferFrame::from_bytes(octets, managed) {
-        FrameAnswer::Done(frame) => {
+        Ok(frame) => {
             say(rt, what, 0)?;
             println!(rt; ", data {}", frame.data_len)
         }
-        FrameAnswer::Refused(refusal) => {
+        Err(refusal) => {
             say(rt, what, refusal.number())?;
             println!(rt; "")
         }
@@ -78,20 +77,20 @@ fn write(rt: &impl Print, what: &str, len: usize) -> io::Result<()> {
         data_field_header: TransferFrameDataFieldHeader {
             construction_rule: ConstructionRule::NoSegmentation,
             uslp_protocol_id: UslpProtocolId::UserDefinedOctetStream,
-            fhp_or_lvo: FhpOrLvo::Absent,
+            fhp_or_lvo: None,
         },
-        operational_control_field: OperationalControlField::Absent,
+        operational_control_field: None,
         has_fecf: false,
     };
     let data = [0x0Au8; 65529];
     let mut buf = [0xEEu8; 65540];
     if len <= 65529 {
         match frame.write_to_slice(&data[0..len], &mut buf) {
-            LengthAnswer::Done(total) => {
+            Ok(total) => {
                 say(rt, what, 0)?;
                 print!(rt; ", total {total}")?;
             }
-            LengthAnswer::Refused(refusal) => say(rt, what, refusal.number())?,
+            Err(refusal) => say(rt, what, refusal.number())?,
         }
         println!(rt; ", length octets {:02x} {:02x}", buf[4], buf[5])?;
     }
@@ -100,8 +99,8 @@ fn write(rt: &impl Print, what: &str, len: usize) -> io::Result<()> {
 
 fn count(rt: &impl Print, what: &str, value: u64) -> io::Result<()> {
     match header().with_vc_frame_count(7, value) {
-        HeaderAnswer::Done(_) => say(rt, what, 0)?,
-        HeaderAnswer::Refused(refusal) => say(rt, what, refusal.number())?,
+        Ok(_) => say(rt, what, 0)?,
+        Err(refusal) => say(rt, what, refusal.number())?,
     }
     println!(rt; "")
 }

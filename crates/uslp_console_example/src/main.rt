@@ -4,12 +4,11 @@
 use std::io;
 use uslp_end_to_end::hear_many;
 use uslp_form::Form;
-use uslp_hearing::{FrameArrival, HearAnswer, handed_on, hear, hear_frame};
+use uslp_hearing::{FrameArrival, handed_on, hear, hear_frame};
 use uslp_intake::{IntakeAnswer, take_block};
 use uslp_kinds::{
-    BypassSequenceControlFlag, DoneAnswer, LengthAnswer, MAX_FRAME_LEN, NO_FECF, Refusal, written,
-};
-use uslp_record::{Channel, ChannelRecord, TotalAnswer};
+    BypassSequenceControlFlag, MAX_FRAME_LEN, NO_FECF, Refusal, written};
+use uslp_record::{Channel, ChannelRecord};
 use uslp_saved::{MAX_FORM_LEN, restore, save};
 
 // Hears one buffer; the record that it answers is the one to go on with, unchanged on a refusal.
@@ -19,12 +18,12 @@ fn take(rt: &impl Print, channels: ChannelRecord, octets: &[u8]) -> io::Result<C
     // a part of the octets; empty unless the frame is NEW
     let reading = handed_on(answer, octets);
     match answer {
-        HearAnswer::Done(arrival) => match arrival {
+        Ok(arrival) => match arrival {
             FrameArrival::New { gap, frame: _ } => say(rt, "new, missing before it: ", gap)?,
             FrameArrival::Repeat => say(rt, "repeat, octets handed on: ", reading.len() as u64)?,
             FrameArrival::Late => say(rt, "late, octets handed on: ", reading.len() as u64)?,
         },
-        HearAnswer::Refused(refusal) => say(rt, "refused: ", refusal.number() as u64)?,
+        Err(refusal) => say(rt, "refused: ", refusal.number() as u64)?,
     }
     Ok(heard.next)
 }
@@ -97,16 +96,16 @@ fn restart(rt: &impl Print, channels: ChannelRecord) -> io::Result<ChannelRecord
     let mut saved = [0u8; MAX_FORM_LEN];
     let length = save(channels, Form::One, &mut saved);
     match length {
-        LengthAnswer::Done(n) => {
+        Ok(n) => {
             let restored = restore(ChannelRecord::new(), Form::One, written(length, &saved));
             let answer = restored.answer;
             match answer {
-                DoneAnswer::Done => say(rt, "restored, octets: ", n as u64)?,
-                DoneAnswer::Refused(refusal) => say(rt, "refused: ", refusal.number() as u64)?,
+                Ok(()) => say(rt, "restored, octets: ", n as u64)?,
+                Err(refusal) => say(rt, "refused: ", refusal.number() as u64)?,
             }
             Ok(restored.next)
         }
-        LengthAnswer::Refused(refusal) => {
+        Err(refusal) => {
             say(rt, "refused: ", refusal.number() as u64)?;
             Ok(channels)
         }
@@ -184,8 +183,8 @@ fn hear_all(rt: &impl Print) -> io::Result<()> {
     )?;
     channels = from_blocks(rt, channels)?;
     match channels.total_missing() {
-        TotalAnswer::Done(missing) => say(rt, "missing in all: ", missing),
-        TotalAnswer::Refused(refusal) => say(rt, "refused: ", refusal.number() as u64),
+        Ok(missing) => say(rt, "missing in all: ", missing),
+        Err(refusal) => say(rt, "refused: ", refusal.number() as u64),
     }
 }
 

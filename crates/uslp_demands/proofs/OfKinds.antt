@@ -7,19 +7,17 @@ use Prim.Native.Nat.{ℕ}
 use native.Mathlib.Omega.{arith}
 use lib.ListN.{length}
 use denote.Ref.{Bor}
-use Rattle.uslp_kinds.specs.Answers.{paper_protocol}
-use Rattle.uslp_kinds.proofs.Back.{back, one_to_one, protocol_back}
+use Rattle.uslp_kinds.proofs.Back.{back, one_to_one, paper_one}
 use Rattle.uslp_kinds.specs.declared.SourceOrDestField.TheVariants.{Source, Dest}
 use Rattle.uslp_kinds.specs.declared.BypassSequenceControlFlag.TheVariants.{SequenceControlledQoS, ExpeditedQoS}
 use Rattle.uslp_kinds.specs.declared.ProtocolControlCommandFlag.TheVariants.{TfdfContainsUserData, TfdfContainsProtocolInfo}
 use Rattle.uslp_kinds.specs.declared.ConstructionRule.TheVariants.{PacketSpanningMultipleFrames, OctetStream, NoSegmentation}
 use Rattle.uslp_kinds.specs.declared.UslpProtocolId.TheVariants.{UserDefinedOctetStream, Idle}
 use Rattle.uslp_kinds.specs.declared.Refusal.TheVariants.{ShortSource, ShortTarget, BadProtocol}
-use Rattle.uslp_kinds.specs.declared.LengthAnswer.TheVariants as length_answer
-use Rattle.uslp_kinds.specs.declared.ProtocolIdAnswer.TheVariants.{Done, Refused}
 use Rattle.uslp_kinds.proofs as kinds
 use Rattle.uslp_demands.specs.Promise.{Function, function, at, Allows, Settles, Shows}
 use Rattle.uslp_demands.proofs.Alike.{alike}
+use Rattle.std.specs.Prelude.{Ok, Err}
 
 -- the functions, each with its promise
 abbrev fn_written : Function
@@ -191,14 +189,14 @@ applicable_none e = let z : ◌≡◌ {A = ℕ} 0 1 = cc in omega arith
 
 pub protocol_from_settles : Settles fn_uslp_protocol_id_from_number
 protocol_from_settles = record
-    { total = λ κs a. tt; same = λ κs a x y s t. alike (one_to_one paper_protocol (back Done Refused) protocol_back (s ∙ sym t)) refl }
+    { total = λ κs a. tt; same = λ κs a x y s t. alike (paper_one (s ∙ sym t)) refl }
 
 -- an unknown id taken as idle
-pub protocol_from_idle : Allows fn_uslp_protocol_id_from_number tt (9, tt) (Done Idle, (tt, tt)) → ⊥
+pub protocol_from_idle : Allows fn_uslp_protocol_id_from_number tt (9, tt) (Ok Idle, (tt, tt)) → ⊥
 protocol_from_idle e = let z : ◌≡◌ {A = ℕ} 0 1 = cc in omega arith
 
 -- 31 refused as the others above 8
-pub protocol_from_refused : Allows fn_uslp_protocol_id_from_number tt (31, tt) (Refused (BadProtocol 31), (tt, tt)) → ⊥
+pub protocol_from_refused : Allows fn_uslp_protocol_id_from_number tt (31, tt) (Err (BadProtocol 31), (tt, tt)) → ⊥
 protocol_from_refused e = let z : ◌≡◌ {A = ℕ} 0 1 = cc in omega arith
 
 pub protocol_number_settles : Settles fn_uslp_protocol_id_number
@@ -236,9 +234,9 @@ pub written_shows : Shows fn_written (λ κs a r. r)
 written_shows = record { total = λ κs a. tt; same = λ κs a x y s t. (s.lies ∙ sym t.lies, s.shows ∙ sym t.shows) }
 
 -- shows the whole buffer; shows octets on a refusal
-pub written_whole : (r : Bor (List ℕ)) → r.now ≡ 1 ∷ 2 ∷ [] → Allows fn_written ([], tt) (length_answer.Done 1, (at (1 ∷ 2 ∷ []), tt)) (r, (tt, (tt, tt))) → ⊥
+pub written_whole : (r : Bor (List ℕ)) → r.now ≡ 1 ∷ 2 ∷ [] → Allows fn_written ([], tt) (Ok 1, (at (1 ∷ 2 ∷ []), tt)) (r, (tt, (tt, tt))) → ⊥
 written_whole r h e = let z : ◌≡◌ {A = ℕ} 2 1 = ap length (sym h ∙ e.shows) in omega arith
 
 pub written_refused : (r : Bor (List ℕ)) → r.now ≡ 1 ∷ 2 ∷ []
-    → Allows fn_written ([], tt) (length_answer.Refused (ShortTarget 2 3), (at (1 ∷ 2 ∷ []), tt)) (r, (tt, (tt, tt))) → ⊥
+    → Allows fn_written ([], tt) (Err (ShortTarget 2 3), (at (1 ∷ 2 ∷ []), tt)) (r, (tt, (tt, tt))) → ⊥
 written_refused r h e = let z : ◌≡◌ {A = ℕ} 2 0 = ap length (sym h ∙ e.shows) in omega arith

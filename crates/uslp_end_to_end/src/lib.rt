@@ -4,16 +4,17 @@
 ghost use Rattle.std.specs.Prelude.{◌≡◌, List, ℕ, ◌<◌, ◌^◌};
 ghost use Rattle.uslp_kinds.specs.Outcome.{done, refused};
 ghost use Rattle.uslp_reader.specs.declared.TransferFrame.{TransferFrame};
-ghost use Rattle.uslp_record.specs.Judging.{paper_slot, slot_judging};
+ghost use Rattle.uslp_record.specs.Judging.{slot_judging};
 ghost use Rattle.uslp_record.specs.declared.Arrival.{Arrival};
 ghost use Rattle.uslp_hearing.specs.Hearing.{channel_of, frame_arrival};
 ghost use Rattle.uslp_end_to_end.specs.Many.{paper_many, no_frames, plus, tally_of, many_hearing, Small};
+ghost use Rattle.uslp_kinds.specs.Answers.{paper};
 
 use uslp_hearing::channel_of;
-use uslp_kinds::{DoneAnswer, ManagedParameters, Refusal};
+use uslp_kinds::{ManagedParameters, Refusal};
 use uslp_primary_header::PrimaryHeader;
-use uslp_reader::{FrameAnswer, TransferFrame};
-use uslp_record::{Arrival, ChannelRecord, SLOTS, Slot, SlotAnswer, search};
+use uslp_reader::{TransferFrame};
+use uslp_record::{Arrival, ChannelRecord, SLOTS, Slot, search};
 
 // How many frames were NEW, the sum of their gaps, how many were REPEAT and LATE, and how many got 13, 14 and 17.
 #[derive(Clone, Copy)]
@@ -33,7 +34,7 @@ pub struct Tally {
 pub struct ManyHearing {
     pub place: usize,
     pub tally: Tally,
-    pub stop: DoneAnswer,
+    pub stop: Result<(), Refusal>,
     pub next: ChannelRecord,
 }
 
@@ -46,17 +47,17 @@ pub fn hear_many(channels: ChannelRecord, buf: &[u8], managed: ManagedParameters
     let mut place: usize = 0;
     while place < buf.len() {
         match TransferFrame::from_bytes(&buf[place..], managed) {
-            FrameAnswer::Done(frame) => {
+            Ok(frame) => {
                 let header = frame.primary_header;
                 let at = search(next, channel_of(header));
                 if at < SLOTS {
                     // a record handed over and back would be copied whole for each frame
                     match judge_in(next.slots[at], header) {
-                        SlotAnswer::Done { arrival, slot } => {
+                        Ok((arrival, slot)) => {
                             next.slots[at] = slot;
                             tally = arrived(tally, arrival);
                         }
-                        SlotAnswer::Refused(refusal) => tally = passed(tally, refusal.number()),
+                        Err(refusal) => tally = passed(tally, refusal.number()),
                     }
                 } else {
                     let refusal = Refusal::NotOpen;
@@ -64,11 +65,11 @@ pub fn hear_many(channels: ChannelRecord, buf: &[u8], managed: ManagedParameters
                 }
                 place += frame.len_frame();
             }
-            FrameAnswer::Refused(refusal) => {
+            Err(refusal) => {
                 return ManyHearing {
                     place,
                     tally,
-                    stop: DoneAnswer::Refused(refusal),
+                    stop: Err(refusal),
                     next,
                 };
             }
@@ -77,7 +78,7 @@ pub fn hear_many(channels: ChannelRecord, buf: &[u8], managed: ManagedParameters
     ManyHearing {
         place,
         tally,
-        stop: DoneAnswer::Done,
+        stop: Ok(()),
         next,
     }
 }
@@ -97,8 +98,8 @@ fn no_frames() -> Tally
 }
 
 // A frame of the channel that the slot holds.
-fn judge_in(slot: Slot, header: PrimaryHeader) -> SlotAnswer
-    ensures { paper_slot result ≡ slot_judging slot (channel_of header) header.vc_frame_count_len header.vc_frame_count }
+fn judge_in(slot: Slot, header: PrimaryHeader) -> Result<(Arrival, Slot), Refusal>
+    ensures { paper result ≡ slot_judging slot (channel_of header) header.vc_frame_count_len header.vc_frame_count }
 {
     let channel = channel_of(header);
     slot.judge_count(channel, header.vc_frame_count_len, header.vc_frame_count)

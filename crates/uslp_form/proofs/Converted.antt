@@ -9,9 +9,6 @@ use native.Mathlib.Decide.{dec_lt}
 use lib.ListN.{length, take, drop, length-append}
 use lib.Seq.{take-append_seam}
 use Rattle.uslp_kinds.specs.Outcome.{Outcome, done, refused, Written, leaving}
-use Rattle.uslp_kinds.specs.Answers.{paper_length}
-use Rattle.uslp_kinds.specs.declared.LengthAnswer.{LengthAnswer}
-use Rattle.uslp_kinds.specs.declared.LengthAnswer.TheVariants.{Done as Filled}
 use Rattle.uslp_kinds.proofs.Back.{leaving_one}
 use Rattle.uslp_kinds.proofs.Outcomes.{not_done}
 use Rattle.uslp_record.proofs.Back.{keeping_one}
@@ -26,6 +23,9 @@ use Rattle.uslp_form.specs.Saved.Converting.{good, bad}
 use Rattle.uslp_form.proofs.Across.{good_across, saved_across, said_restored, entries_said}
 use Rattle.uslp_form.proofs.Rows.{good_one, restores_done}
 use Rattle.uslp_form.proofs.Claims.{saving_lacks, saving_done, saving_short, saves, saving_kept, restoring_good, restoring_bad, refused_bad}
+use Rattle.std.specs.Prelude.{Result, Ok}
+use Rattle.uslp_kinds.specs.Answers.{paper}
+use Rattle.uslp_kinds.specs.declared.Refusal.{Refusal}
 
 -- a refusal is the same of whatever result
 refused_alike : {A B : Type 0} {n m : ℕ} {vs ws : List ℕ} → ◌≡◌ {A = Outcome A} (refused n vs) (refused m ws)
@@ -75,8 +75,8 @@ module _ (f g : Form) where
         let w = form g d.unheard d.heard in
         omega (arith, d.count, ap length d.left, length-append w (drop (length w) b))
 
-    pub converted_within : (t : List ℕ) (a : LengthAnswer) (n : ℕ) → a ≡ Filled n → Converting f g s b (leaving (paper_length a) t) → n ≤ length t
-    converted_within t a n e h = converting_fits (subst (λ (x : LengthAnswer). Converting f g s b (leaving (paper_length x) t)) e h)
+    pub converted_within : (t : List ℕ) (a : Result ℕ Refusal) (n : ℕ) → a ≡ Filled n → Converting f g s b (leaving (paper a) t) → n ≤ length t
+    converted_within t a n e h = converting_fits (subst (λ (x : Result ℕ Refusal). Converting f g s b (leaving (paper x) t)) e h)
 
     -- a converting leaves one thing only
     pub converting_good : (us hs : List SlotState) {o : Written ℕ} → GoodForm f s us hs → Converting f g s b o → o ≡ saving g (restored (us ++ hs)) b
@@ -101,7 +101,7 @@ module _ (f g : Form) where
       pub said : RecordSaid g (restored (unheard ++ heard))
       pub room : length (form g unheard heard) ≤ length b
 
-    pub record Done : Type 0 where
+    pub record Ok : Type 0 where
       pub count : ℕ
       pub left : List ℕ
       pub is : Converting f g s b (leaving (done count) left)
@@ -115,10 +115,10 @@ module _ (f g : Form) where
         (saving_done g r b c.said (omega (arith, ap length a, c.room)) ∙ ap (λ (l : List ℕ). leaving (done (length l)) (l ++ drop (length l) b)) a)
         (good c.unheard c.heard c.from)
 
-    pub done_exactly : Done ↔ Convertible
+    pub done_exactly : Ok ↔ Convertible
     done_exactly = (there, λ c. record { count = _; left = _; is = converting_done c })
       where
-        there : Done → Convertible
+        there : Ok → Convertible
         there d =
             let c = converts d.is in
             let us = c.unheard in

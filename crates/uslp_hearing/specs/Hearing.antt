@@ -15,12 +15,6 @@ use Rattle.uslp_record.specs.declared.Arrival.{Arrival}
 use Rattle.uslp_record.specs.declared.Arrival.TheVariants as arrival
 use Rattle.uslp_hearing.specs.declared.FrameArrival.{FrameArrival}
 use Rattle.uslp_hearing.specs.declared.FrameArrival.TheVariants.{New, Repeat, Late}
-use Rattle.uslp_hearing.specs.declared.HearAnswer.{HearAnswer}
-use Rattle.uslp_hearing.specs.declared.HearAnswer.TheVariants as hear_answer
-
-abbrev pub paper_hear : HearAnswer → Outcome FrameArrival
-paper_hear (hear_answer.Done a) = done a
-paper_hear (hear_answer.Refused r) = refusal r
 
 -- how a frame names the channel that it is counted for
 abbrev pub Naming : Type 0

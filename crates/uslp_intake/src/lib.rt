@@ -8,7 +8,7 @@ ghost use Rattle.uslp_intake.specs.Intake.{paper_intake, taken_by, held_by, inta
 
 use uslp_kinds::{MAX_FRAME_LEN, ManagedParameters, Refusal};
 use uslp_octets::copy_octets;
-use uslp_reader::{FrameAnswer, TransferFrame};
+use uslp_reader::{TransferFrame};
 
 // What a call did with its block: how many octets it took, and how many the holding buffer now holds.
 #[derive(Clone, Copy)]
@@ -105,10 +105,10 @@ fn take_wanted(
     loop {
         let end = held + taken;
         match TransferFrame::from_bytes(&holding[0..end], managed) {
-            FrameAnswer::Done(frame) => {
+            Ok(frame) => {
                 return IntakeAnswer::Frame { taken, frame };
             }
-            FrameAnswer::Refused(refusal) => {
+            Err(refusal) => {
                 let wanted = refusal.lacking();
                 if wanted == 0 {
                     return IntakeAnswer::Stopped {

@@ -4,10 +4,10 @@ use Prim.Native.Nat.{ℕ}
 use mathlib.Core.List.{List, [], ◌∷◌}
 use mathlib.Core.Bool.{cond}
 use lib.Dec.{eqb}
-use Rattle.std.specs.Prelude.{Result, Ok, Err}
+use Rattle.std.specs.Prelude.{Result, Ok, Err, IsErrAnd}
 use Rattle.uslp_kinds.specs.Outcome.{Outcome, done, refused, leaving}
 use Rattle.uslp_kinds.specs.Kinds.{rule_of}
-use Rattle.uslp_kinds.specs.Answers.{refusal_number, carried, paper}
+use Rattle.uslp_kinds.specs.Answers.{refusal_number, carried, refusal, paper}
 use Rattle.uslp_kinds.proofs.Cases.{rule_back}
 use Rattle.uslp_kinds.specs.declared.Refusal.{Refusal}
 use Rattle.uslp_kinds.specs.declared.Refusal.TheVariants.{ShortSource, ShortTarget, Truncated, BadVersion, BadProtocol, BadChecksum, FrameTooShort, BadCount, BadPointer, BadField, OcfMissing, TooLong, NotOpen, OtherWidth, AlreadyOpen, TableFull, TotalFull, BadForm, LacksFlag}
@@ -75,3 +75,8 @@ paper_one = one_to_one paper answer_of paper_back
 -- one equation of what a writing leaves is two
 pub leaving_one : {A : Type 0} {o p : Outcome A} {s t : List ℕ} → leaving o s ≡ leaving p t → (o ≡ p) × (s ≡ t)
 leaving_one e = (cc, cc)
+
+-- a refusal that `?` passes on says the same on paper
+pub passed_on : {A : Type 0} (r : Result A Refusal) (e : Refusal) {o : Outcome A} → IsErrAnd r (λ x. x ≡ e) → refusal e ≡ o → paper r ≡ o
+passed_on (Ok x) e p q = absurd p
+passed_on (Err x) e p q = ap refusal p ∙ q

@@ -7,7 +7,6 @@ use std::env::{Env, FillError};
 use std::fs::{File, Files};
 use std::io::Read;
 use std::{io, str};
-use uslp_kinds::LengthAnswer;
 use uslp_listing::{LISTING_ROOM, MAX_RECORDING_LEN};
 
 // An argument has at most so many octets.
@@ -86,7 +85,7 @@ fn read_full<I: Read>(input: &mut I, buf: &mut [u8]) -> usize
 
 fn print_listing(rt: &impl Print, recording: &[u8]) -> io::Result<()> {
     let mut text = blank();
-    let LengthAnswer::Done(length) = uslp_listing::list(recording, &mut text) else {
+    let Ok(length) = uslp_listing::list(recording, &mut text) else {
         return Ok(());
     };
     rt.write_all(&text[..length])

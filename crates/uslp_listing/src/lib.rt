@@ -3,12 +3,12 @@
 
 ghost use Rattle.std.specs.Prelude.{◌≡◌, ◌≤◌, ◌++◌, length};
 ghost use Rattle.uslp_kinds.specs.Outcome.{leaving};
-ghost use Rattle.uslp_kinds.specs.Answers.{paper_length};
 ghost use Rattle.uslp_text.specs.Text.{decimal, Told};
 ghost use Rattle.uslp_listing.specs.Listing.{heading, line, summary, lines_of, room, listing_over};
+ghost use Rattle.uslp_kinds.specs.Answers.{paper};
 
-use uslp_kinds::{LengthAnswer, NO_FECF, Refusal};
-use uslp_reader::{FrameAnswer, TransferFrame};
+use uslp_kinds::{NO_FECF, Refusal};
+use uslp_reader::{TransferFrame};
 use uslp_text::{put_decimal, put_text};
 
 // The most octets that a recording may have.
@@ -18,12 +18,12 @@ pub const MAX_RECORDING_LEN: usize = 65536;
 pub const LISTING_ROOM: usize = 524400;
 
 // The listing of a recording over the front of `out`. Refuses SHORT_TARGET for a buffer below the room.
-pub fn list(recording: &[u8], out: &mut [u8]) -> LengthAnswer
-    ensures { leaving (paper_length result) out.new ≡ listing_over recording.now out.old }
+pub fn list(recording: &[u8], out: &mut [u8]) -> Result<usize, Refusal>
+    ensures { leaving (paper result) out.new ≡ listing_over recording.now out.old }
 {
     let found = out.len();
     if found < LISTING_ROOM {
-        return LengthAnswer::Refused(Refusal::ShortTarget {
+        return Err(Refusal::ShortTarget {
             found,
             expected: LISTING_ROOM,
         });
@@ -31,9 +31,9 @@ pub fn list(recording: &[u8], out: &mut [u8]) -> LengthAnswer
     let at = put_text(b"at length spacecraft channel map count data\n", out, 0);
     if recording.len() > MAX_RECORDING_LEN {
         let refusal = Refusal::TooLong;
-        return LengthAnswer::Done(put_summary(0, 0, refusal.number(), out, at));
+        return Ok(put_summary(0, 0, refusal.number(), out, at));
     }
-    LengthAnswer::Done(put_lines(recording, out, at))
+    Ok(put_lines(recording, out, at))
 }
 
 // The lines of the frames, end to end, and the summary. Behind the heading they have their room.
@@ -47,12 +47,12 @@ fn put_lines(recording: &[u8], out: &mut [u8], start: usize) -> usize
     let mut frames: usize = 0;
     while place < recording.len() {
         match TransferFrame::from_bytes(&recording[place..], NO_FECF) {
-            FrameAnswer::Done(frame) => {
+            Ok(frame) => {
                 at = put_line(place, frame, out, at);
                 place += frame.len_frame();
                 frames += 1;
             }
-            FrameAnswer::Refused(refusal) => {
+            Err(refusal) => {
                 return put_summary(frames, place, refusal.number(), out, at);
             }
         }

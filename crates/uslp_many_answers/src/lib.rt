@@ -9,7 +9,7 @@ use std::io::Write;
 use uslp_answers::channels::say_done;
 use uslp_answers::{say, say_field, say_zero};
 use uslp_end_to_end::{Tally, hear_many};
-use uslp_kinds::{DoneAnswer, ManagedParameters};
+use uslp_kinds::{ManagedParameters};
 use uslp_record::ChannelRecord;
 
 // The place reached, the tally, and why the call stopped there.
@@ -41,7 +41,7 @@ fn say_tally<W: Write>(out: &mut W, tally: Tally) -> io::Result<()> {
     say_field(out, tally.total_full)
 }
 
-fn say_stop<W: Write>(out: &mut W, stop: DoneAnswer) -> io::Result<()> {
+fn say_stop<W: Write>(out: &mut W, stop: Result<(), Refusal>) -> io::Result<()> {
     say(out, b" ")?;
     say_done(out, stop)
 }

@@ -8,12 +8,6 @@ use Rattle.uslp_kinds.specs.declared.SourceOrDestField.{SourceOrDestField}
 use Rattle.uslp_kinds.specs.declared.BypassSequenceControlFlag.TheVariants.{SequenceControlledQoS}
 use Rattle.uslp_kinds.specs.declared.ProtocolControlCommandFlag.TheVariants.{TfdfContainsUserData}
 use Rattle.uslp_primary_header.specs.declared.PrimaryHeader.{PrimaryHeader}
-use Rattle.uslp_primary_header.specs.declared.HeaderAnswer.{HeaderAnswer}
-use Rattle.uslp_primary_header.specs.declared.HeaderAnswer.TheVariants as header_answer
-
-abbrev pub paper_header : HeaderAnswer → Outcome PrimaryHeader
-paper_header (header_answer.Done h) = done h
-paper_header (header_answer.Refused r) = refusal r
 
 abbrev pub flag : Bool → ℕ
 flag true = 1

@@ -1,19 +1,18 @@
 // Hearing a frame of a channel, as numbers.
 ghost use Rattle.std.specs.Prelude.{◌≡◌, ◌+◌, ◌^◌, ◌<◌, ◌≤◌, false};
 ghost use Rattle.uslp_record.specs.Record.{keeping};
-ghost use Rattle.uslp_record.specs.Judging.{paper_arrival, paper_slot, ahead, arrival_of, totals_after, first_totals, overfull, arrival_at, totals_at, width_at, count_hearing, slot_judging};
+ghost use Rattle.uslp_record.specs.Judging.{ahead, arrival_of, totals_after, first_totals, overfull, arrival_at, totals_at, width_at, count_hearing, slot_judging};
+ghost use Rattle.uslp_kinds.specs.Answers.{paper};
 
 use crate::{
-    Arrival, ArrivalAnswer, Channel, ChannelRecord, CountHearing, MOST, SLOTS, Slot, SlotAnswer,
-    SlotState, Totals, search,
-};
+    Arrival, Channel, ChannelRecord, Recorded, MOST, SLOTS, Slot, SlotState, Totals, search};
 use uslp_kinds::{MAX_COUNT_LEN, Refusal};
 
 impl ChannelRecord {
     // Hears a frame of this channel, width and count. Refuses BAD_FIELD for a width that no frame has, BAD_COUNT for a count
     // that does not fit it, NOT_OPEN, OTHER_WIDTH, TOTAL_FULL.
-    pub fn hear_count(self, channel: Channel, width: u8, count: u64) -> CountHearing
-        ensures { keeping (paper_arrival result.answer) result.next ≡ count_hearing self channel width count }
+    pub fn hear_count(self, channel: Channel, width: u8, count: u64) -> Recorded<Arrival>
+        ensures { keeping (paper result.answer) result.next ≡ count_hearing self channel width count }
     {
         if width > MAX_COUNT_LEN {
             return unheard(self, Refusal::BadField);
@@ -28,23 +27,23 @@ impl ChannelRecord {
         let mut next = self;
         let found = next.slots[at];
         match found.judge_count(channel, width, count) {
-            SlotAnswer::Done { arrival, slot } => {
+            Ok((arrival, slot)) => {
                 next.slots[at] = slot;
-                CountHearing {
-                    answer: ArrivalAnswer::Done(arrival),
+                Recorded {
+                    answer: Ok(arrival),
                     next,
                 }
             }
-            SlotAnswer::Refused(refusal) => unheard(self, refusal),
+            Err(refusal) => unheard(self, refusal),
         }
     }
 }
 
-fn unheard(channels: ChannelRecord, refusal: Refusal) -> CountHearing
-    ensures { result ≡ record { answer = ArrivalAnswer.Refused refusal; next = channels } }
+fn unheard(channels: ChannelRecord, refusal: Refusal) -> Recorded<Arrival>
+    ensures { result ≡ record { answer = Err refusal; next = channels } }
 {
-    CountHearing {
-        answer: ArrivalAnswer::Refused(refusal),
+    Recorded {
+        answer: Err(refusal),
         next: channels,
     }
 }
@@ -52,26 +51,26 @@ fn unheard(channels: ChannelRecord, refusal: Refusal) -> CountHearing
 impl Slot {
     // The same for whoever holds the slot that the search found: a caller who replaces it copies no record.
     // Refuses BAD_FIELD, BAD_COUNT, OTHER_WIDTH, TOTAL_FULL.
-    pub fn judge_count(self, channel: Channel, width: u8, count: u64) -> SlotAnswer
-        ensures { paper_slot result ≡ slot_judging self channel width count }
+    pub fn judge_count(self, channel: Channel, width: u8, count: u64) -> Result<(Arrival, Slot), Refusal>
+        ensures { paper result ≡ slot_judging self channel width count }
     {
         if width > MAX_COUNT_LEN {
-            return SlotAnswer::Refused(Refusal::BadField);
+            return Err(Refusal::BadField);
         }
         if count >= counts(width) {
-            return SlotAnswer::Refused(Refusal::BadCount { count, width });
+            return Err(Refusal::BadCount { count, width });
         }
         let state = self.state;
         let opened = width_of(state);
         if width != opened {
-            return SlotAnswer::Refused(Refusal::OtherWidth {
+            return Err(Refusal::OtherWidth {
                 frame: width,
                 opened,
             });
         }
         let step = step_of(state, count);
         if step.full {
-            return SlotAnswer::Refused(Refusal::TotalFull);
+            return Err(Refusal::TotalFull);
         }
         let arrival = step.arrival;
         let totals = step.totals;
@@ -80,10 +79,7 @@ impl Slot {
             width,
             totals,
         };
-        SlotAnswer::Done {
-            arrival,
-            slot: Slot { state: heard },
-        }
+        Ok((arrival, Slot { state: heard }))
     }
 }
 

@@ -2,11 +2,11 @@
 #![tactic(auto)]
 
 ghost use Rattle.std.specs.Prelude.{◌≡◌, ◌<◌};
-ghost use Rattle.uslp_kinds.specs.Answers.{paper_done};
 ghost use Rattle.uslp_record.specs.Slots.{same_channel, state_holds, state_closed, find, vacant, put, empty_record};
-ghost use Rattle.uslp_record.specs.Record.{keeping, paper_total, missing_of, opening, closing, console_total, paper_state, showing};
+ghost use Rattle.uslp_record.specs.Record.{keeping, missing_of, opening, closing, console_total, showing};
+ghost use Rattle.uslp_kinds.specs.Answers.{paper};
 
-use uslp_kinds::{BypassSequenceControlFlag, DoneAnswer, MAX_COUNT_LEN, MAX_VC_ID, Refusal};
+use uslp_kinds::{BypassSequenceControlFlag, MAX_COUNT_LEN, MAX_VC_ID, Refusal};
 
 mod counting;
 
@@ -17,7 +17,7 @@ pub const SLOTS: usize = 8;
 pub const MOST: u64 = 0x0FFF_FFFF_FFFF_FFFF;
 
 // A spacecraft id with a channel number and the bypass flag: sequence-controlled and expedited frames are numbered apart.
-#[derive(Clone, Copy)]
+#[derive(Clone, Copy, Debug, PartialEq, Eq)]
 pub struct Channel {
     pub spacecraft_id: u16,
     pub vc_id: u8,
@@ -25,7 +25,7 @@ pub struct Channel {
 }
 
 // What a heard channel has counted; last is the count of its furthest frame.
-#[derive(Clone, Copy)]
+#[derive(Clone, Copy, Debug, PartialEq, Eq)]
 pub struct Totals {
     pub last: u64,
     pub handed_on: u64,
@@ -34,7 +34,7 @@ pub struct Totals {
     pub late: u64,
 }
 
-#[derive(Clone, Copy)]
+#[derive(Clone, Copy, Debug, PartialEq, Eq)]
 pub enum SlotState {
     Closed,
     Opened {
@@ -48,62 +48,29 @@ pub enum SlotState {
     },
 }
 
-#[derive(Clone, Copy)]
+#[derive(Clone, Copy, Debug, PartialEq, Eq)]
 pub struct Slot {
     pub state: SlotState,
 }
 
-#[derive(Clone, Copy)]
+#[derive(Clone, Copy, Debug, PartialEq, Eq)]
 pub struct ChannelRecord {
     pub slots: [Slot; SLOTS],
 }
 
-// An answer, and the record after the call.
-#[derive(Clone, Copy)]
-pub struct Recorded {
-    pub answer: DoneAnswer,
+// An answer, and the record after the call: on a refusal, the one that was given.
+#[derive(Clone, Copy, Debug)]
+pub struct Recorded<T> {
+    pub answer: Result<T, Refusal>,
     pub next: ChannelRecord,
 }
 
-#[derive(Clone, Copy)]
-pub enum TotalAnswer {
-    Done(u64),
-    Refused(Refusal),
-}
-
-// What a slot that holds a channel has.
-#[derive(Clone, Copy)]
-pub enum StateAnswer {
-    Done(SlotState),
-    Refused(Refusal),
-}
-
 // What hearing a frame finds: NEW with how many frames are missing before it, or nothing to hand on.
-#[derive(Clone, Copy)]
+#[derive(Clone, Copy, Debug, PartialEq, Eq)]
 pub enum Arrival {
     New(u64),
     Repeat,
     Late,
-}
-
-#[derive(Clone, Copy)]
-pub enum ArrivalAnswer {
-    Done(Arrival),
-    Refused(Refusal),
-}
-
-// What hearing a frame's count finds, and the record after it.
-#[derive(Clone, Copy)]
-pub struct CountHearing {
-    pub answer: ArrivalAnswer,
-    pub next: ChannelRecord,
-}
-
-// What a frame's count is to the slot that holds its channel, and the slot after it.
-#[derive(Clone, Copy)]
-pub enum SlotAnswer {
-    Done { arrival: Arrival, slot: Slot },
-    Refused(Refusal),
 }
 
 impl ChannelRecord {
@@ -120,8 +87,8 @@ impl ChannelRecord {
     }
 
     // Takes the first closed slot. Refuses BAD_FIELD, ALREADY_OPEN, TABLE_FULL.
-    pub fn open_channel(self, channel: Channel, width: u8) -> Recorded
-        ensures { keeping (paper_done result.answer) result.next ≡ opening self channel width }
+    pub fn open_channel(self, channel: Channel, width: u8) -> Recorded<()>
+        ensures { keeping (paper result.answer) result.next ≡ opening self channel width }
     {
         if channel.vc_id > MAX_VC_ID {
             return refused(Refusal::BadField, self);
@@ -141,14 +108,14 @@ impl ChannelRecord {
         }
         let state = SlotState::Opened { channel, width };
         Recorded {
-            answer: DoneAnswer::Done,
+            answer: Ok(()),
             next: changed(self, at, state),
         }
     }
 
     // Refuses NOT_OPEN.
-    pub fn close_channel(self, channel: Channel) -> Recorded
-        ensures { keeping (paper_done result.answer) result.next ≡ closing self channel }
+    pub fn close_channel(self, channel: Channel) -> Recorded<()>
+        ensures { keeping (paper result.answer) result.next ≡ closing self channel }
     {
         let at = search(self, channel);
         if at >= SLOTS {
@@ -156,28 +123,28 @@ impl ChannelRecord {
         }
         let state = SlotState::Closed;
         Recorded {
-            answer: DoneAnswer::Done,
+            answer: Ok(()),
             next: changed(self, at, state),
         }
     }
 
     // Width and totals of an open channel. Refuses NOT_OPEN.
-    pub fn channel_state(self, channel: Channel) -> StateAnswer
-        ensures { paper_state result ≡ showing self channel }
+    pub fn channel_state(self, channel: Channel) -> Result<SlotState, Refusal>
+        ensures { paper result ≡ showing self channel }
     {
         let at = search(self, channel);
         if at >= SLOTS {
-            return StateAnswer::Refused(Refusal::NotOpen);
+            return Err(Refusal::NotOpen);
         }
         let slots = self.slots;
         let slot = slots[at];
         let state = slot.state;
-        StateAnswer::Done(state)
+        Ok(state)
     }
 
     // The sum of missing over open channels. Refuses TOTAL_FULL.
-    pub fn total_missing(self) -> TotalAnswer
-        ensures { paper_total result ≡ console_total self }
+    pub fn total_missing(self) -> Result<u64, Refusal>
+        ensures { paper result ≡ console_total self }
     {
         let slots = self.slots;
         let mut sum: u64 = 0;
@@ -187,12 +154,12 @@ impl ChannelRecord {
             let state = slot.state;
             let missing = missing_of(state);
             if missing > MOST {
-                return TotalAnswer::Refused(Refusal::TotalFull);
+                return Err(Refusal::TotalFull);
             }
             sum += missing;
             i += 1;
         }
-        TotalAnswer::Done(sum)
+        Ok(sum)
     }
 }
 
@@ -311,11 +278,11 @@ fn missing_of(state: SlotState) -> u64
     }
 }
 
-fn refused(refusal: Refusal, channels: ChannelRecord) -> Recorded
-    ensures { (result.answer ≡ DoneAnswer.Refused refusal) × (result.next ≡ channels) }
+fn refused(refusal: Refusal, channels: ChannelRecord) -> Recorded<()>
+    ensures { (result.answer ≡ Err refusal) × (result.next ≡ channels) }
 {
     Recorded {
-        answer: DoneAnswer::Refused(refusal),
+        answer: Err(refusal),
         next: channels,
     }
 }

@@ -3,15 +3,15 @@
 
 ghost use Rattle.std.specs.Prelude.{◌≡◌};
 ghost use Rattle.uslp_kinds.specs.Outcome.{leaving};
-ghost use Rattle.uslp_kinds.specs.Answers.{paper_done, paper_length};
 ghost use Rattle.uslp_record.specs.Record.{keeping};
 ghost use Rattle.uslp_form.specs.Saved.{saving, Restoring};
+ghost use Rattle.uslp_kinds.specs.Answers.{paper};
 
 use columns::unheard_octets;
 use restoring::{all_admitted, flags_fit, has_form, read_all};
 use saving::{empty, put_section, says_all};
 use uslp_form::Form;
-use uslp_kinds::{DoneAnswer, LengthAnswer, Refusal};
+use uslp_kinds::{Refusal};
 use uslp_octets::copy_octets;
 use uslp_record::{ChannelRecord, Recorded};
 
@@ -23,12 +23,12 @@ mod saving;
 pub const MAX_FORM_LEN: usize = 362;
 
 // Writes the record as octets of this form to the front of `to`. Refuses LACKS_FLAG, SHORT_TARGET.
-pub fn save(channels: ChannelRecord, form: Form, to: &mut [u8]) -> LengthAnswer
-    ensures { leaving (paper_length result) to.new ≡ saving form channels to.old }
+pub fn save(channels: ChannelRecord, form: Form, to: &mut [u8]) -> Result<usize, Refusal>
+    ensures { leaving (paper result) to.new ≡ saving form channels to.old }
 {
     let slots = channels.slots;
     if !says_all(slots, form) {
-        return LengthAnswer::Refused(Refusal::LacksFlag);
+        return Err(Refusal::LacksFlag);
     }
     let unheard = put_section(empty(), slots, form, false);
     let out = put_section(unheard, slots, form, true);
@@ -36,15 +36,15 @@ pub fn save(channels: ChannelRecord, form: Form, to: &mut [u8]) -> LengthAnswer
     let found = to.len();
     let expected = out.len;
     if found < expected {
-        return LengthAnswer::Refused(Refusal::ShortTarget { found, expected });
+        return Err(Refusal::ShortTarget { found, expected });
     }
     copy_octets(&filled[0..expected], to);
-    LengthAnswer::Done(expected)
+    Ok(expected)
 }
 
 // The record that octets of this form hold, in place of this one. Refuses BAD_FORM.
 pub fn restore(channels: ChannelRecord, form: Form, from: &[u8]) -> Recorded
-    ensures { Restoring form channels from.now (keeping (paper_done result.answer) result.next) }
+    ensures { Restoring form channels from.now (keeping (paper result.answer) result.next) }
 {
     if !has_form(form, from) {
         return bad_form(channels);
@@ -60,16 +60,16 @@ pub fn restore(channels: ChannelRecord, form: Form, from: &[u8]) -> Recorded
         return bad_form(channels);
     }
     Recorded {
-        answer: DoneAnswer::Done,
+        answer: Ok(()),
         next,
     }
 }
 
 fn bad_form(channels: ChannelRecord) -> Recorded
-    ensures { result ≡ record { answer = DoneAnswer.Refused Refusal.BadForm; next = channels } }
+    ensures { result ≡ record { answer = Err Refusal.BadForm; next = channels } }
 {
     Recorded {
-        answer: DoneAnswer::Refused(Refusal::BadForm),
+        answer: Err(Refusal::BadForm),
         next: channels,
     }
 }

@@ -121,7 +121,7 @@ fn channel_at(form: Form, from: &[u8], at: usize) -> Channel
     Channel {
         spacecraft_id: be_u16(from[at], from[at + 1]),
         vc_id: from[at + 2],
-        sequence_control_flag: BypassSequenceControlFlag::from_number(flag),
+        sequence_control_flag: BypassSequenceControlFlag::from(flag),
     }
 }
 

@@ -5,17 +5,17 @@ use std::io;
 use uslp_converting::convert;
 use uslp_end_to_end::hear_many;
 use uslp_form::Form;
-use uslp_kinds::{BypassSequenceControlFlag, DoneAnswer, LengthAnswer, NO_FECF, written};
-use uslp_record::{Channel, ChannelRecord, TotalAnswer};
+use uslp_kinds::{BypassSequenceControlFlag, NO_FECF, written};
+use uslp_record::{Channel, ChannelRecord};
 use uslp_saved::{MAX_FORM_LEN, restore, save};
 
 // What a console not yet updated restores, at the front of `octets`. Where a channel is expedited it is refused, and no flag is dropped.
-fn for_old(channels: ChannelRecord, octets: &mut [u8]) -> LengthAnswer {
+fn for_old(channels: ChannelRecord, octets: &mut [u8]) -> Result<usize, Refusal> {
     let mut saved = [0u8; MAX_FORM_LEN];
     let length = save(channels, Form::Two, &mut saved);
     match length {
-        LengthAnswer::Done(_) => convert(Form::Two, written(length, &saved), Form::One, octets),
-        LengthAnswer::Refused(refusal) => LengthAnswer::Refused(refusal),
+        Ok(_) => convert(Form::Two, written(length, &saved), Form::One, octets),
+        Err(refusal) => Err(refusal),
     }
 }
 
@@ -24,16 +24,16 @@ fn from_old(rt: &impl Print, channels: ChannelRecord, octets: &[u8]) -> io::Resu
     let mut saved = [0u8; MAX_FORM_LEN];
     let length = convert(Form::One, octets, Form::Two, &mut saved);
     match length {
-        LengthAnswer::Done(n) => {
+        Ok(n) => {
             let restored = restore(channels, Form::Two, written(length, &saved));
             let answer = restored.answer;
             match answer {
-                DoneAnswer::Done => say(rt, "taken back, octets in form 2: ", n as u64)?,
-                DoneAnswer::Refused(refusal) => say(rt, "refused: ", refusal.number() as u64)?,
+                Ok(()) => say(rt, "taken back, octets in form 2: ", n as u64)?,
+                Err(refusal) => say(rt, "refused: ", refusal.number() as u64)?,
             }
             Ok(restored.next)
         }
-        LengthAnswer::Refused(refusal) => {
+        Err(refusal) => {
             say(rt, "refused: ", refusal.number() as u64)?;
             Ok(channels)
         }
@@ -45,11 +45,11 @@ fn share(rt: &impl Print, channels: ChannelRecord) -> io::Result<ChannelRecord> 
     let mut octets = [0u8; MAX_FORM_LEN];
     let length = for_old(channels, &mut octets);
     match length {
-        LengthAnswer::Done(n) => {
+        Ok(n) => {
             say(rt, "handed over, octets in form 1: ", n as u64)?;
             from_old(rt, ChannelRecord::new(), written(length, &octets))
         }
-        LengthAnswer::Refused(refusal) => {
+        Err(refusal) => {
             say(rt, "refused: ", refusal.number() as u64)?;
             Ok(channels)
         }
@@ -60,8 +60,8 @@ fn share(rt: &impl Print, channels: ChannelRecord) -> io::Result<ChannelRecord> 
 fn keep(rt: &impl Print, channels: ChannelRecord) -> io::Result<()> {
     let mut saved = [0u8; MAX_FORM_LEN];
     match save(channels, Form::Two, &mut saved) {
-        LengthAnswer::Done(n) => say(rt, "saved, octets in form 2: ", n as u64),
-        LengthAnswer::Refused(refusal) => say(rt, "refused: ", refusal.number() as u64),
+        Ok(n) => say(rt, "saved, octets in form 2: ", n as u64),
+        Err(refusal) => say(rt, "refused: ", refusal.number() as u64),
     }
 }
 
@@ -108,8 +108,8 @@ fn share_all(rt: &impl Print) -> io::Result<()> {
         b"\xC1\x23\x48\xA6\x00\x0A\x01\x0D\xE4\x0A\xF5",
     )?;
     match channels.total_missing() {
-        TotalAnswer::Done(missing) => say(rt, "missing in all: ", missing)?,
-        TotalAnswer::Refused(refusal) => say(rt, "refused: ", refusal.number() as u64)?,
+        Ok(missing) => say(rt, "missing in all: ", missing)?,
+        Err(refusal) => say(rt, "refused: ", refusal.number() as u64)?,
     }
     channels = open(channels, BypassSequenceControlFlag::ExpeditedQoS);
     channels = take(

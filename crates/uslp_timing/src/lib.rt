@@ -11,11 +11,9 @@ ghost use Rattle.uslp_timing.specs.Timing.{pointer_number, ocf_number, numbers_o
 use uslp_checksum::checksum;
 use uslp_data_field_header::TransferFrameDataFieldHeader;
 use uslp_kinds::{
-    BypassSequenceControlFlag, ConstructionRule, FhpOrLvo, LengthAnswer, OperationalControlField,
-    ProtocolControlCommandFlag, SourceOrDestField, UslpProtocolId, WITH_FECF,
-};
+    BypassSequenceControlFlag, ConstructionRule, ProtocolControlCommandFlag, SourceOrDestField, UslpProtocolId, WITH_FECF};
 use uslp_primary_header::PrimaryHeader;
-use uslp_reader::{FrameAnswer, TransferFrame};
+use uslp_reader::{TransferFrame};
 use uslp_writer::TransferFrameCreator;
 
 pub fn uslp_timing_checksum(message: &[u8]) -> u16
@@ -30,11 +28,11 @@ pub fn uslp_timing_read(octets: &[u8], found: &mut [u64; 16]) -> u8
         × (found.new ≡ numbers_found (frame_reading octets.now fecf) found.old) }
 {
     match TransferFrame::from_bytes(octets, WITH_FECF) {
-        FrameAnswer::Done(frame) => {
+        Ok(frame) => {
             *found = numbers_of(frame);
             0
         }
-        FrameAnswer::Refused(refusal) => refusal.number(),
+        Err(refusal) => refusal.number(),
     }
 }
 
@@ -53,8 +51,8 @@ pub fn uslp_timing_write(
 {
     let frame = frame_with(spacecraft_id, vc_id, map_id, width, count);
     match frame.write_to_slice(data, buf) {
-        LengthAnswer::Done(total) => total,
-        LengthAnswer::Refused(refusal) => 0,
+        Ok(total) => total,
+        Err(refusal) => 0,
     }
 }
 
@@ -83,9 +81,9 @@ fn frame_with(
         data_field_header: TransferFrameDataFieldHeader {
             construction_rule: ConstructionRule::NoSegmentation,
             uslp_protocol_id: UslpProtocolId::UserDefinedOctetStream,
-            fhp_or_lvo: FhpOrLvo::Absent,
+            fhp_or_lvo: None,
         },
-        operational_control_field: OperationalControlField::Absent,
+        operational_control_field: None,
         has_fecf: true,
     }
 }
@@ -122,20 +120,20 @@ fn numbers_of(frame: TransferFrame) -> [u64; 16]
     ]
 }
 
-fn pointer_number(pointer: FhpOrLvo) -> u64
+fn pointer_number(pointer: Option<u16>) -> u64
     ensures { result ≡ pointer_number pointer }
 {
     match pointer {
-        FhpOrLvo::Absent => 0x1_0000,
-        FhpOrLvo::Present(p) => p as u64,
+        None => 0x1_0000,
+        Some(p) => p as u64,
     }
 }
 
-fn ocf_number(ocf: OperationalControlField) -> u64
+fn ocf_number(ocf: Option<u32>) -> u64
     ensures { result ≡ ocf_number ocf }
 {
     match ocf {
-        OperationalControlField::Absent => 0x1_0000_0000,
-        OperationalControlField::Present(o) => o as u64,
+        None => 0x1_0000_0000,
+        Some(o) => o as u64,
     }
 }

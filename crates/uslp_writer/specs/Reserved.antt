@@ -7,12 +7,6 @@ use Rattle.uslp_layout.specs.Layout.{data_start, ocf_octets, with_fecf}
 use Rattle.uslp_writer.specs.Frame.{total, header_octets, frame_checks}
 use Rattle.uslp_writer.specs.declared.TransferFrameCreator.{TransferFrameCreator}
 use Rattle.uslp_writer.specs.declared.TransferFrameCreatorWithReservedData.{TransferFrameCreatorWithReservedData}
-use Rattle.uslp_writer.specs.declared.ReservedAnswer.{ReservedAnswer}
-use Rattle.uslp_writer.specs.declared.ReservedAnswer.TheVariants as reserved_answer
-
-abbrev pub paper_reserved : ReservedAnswer → Outcome TransferFrameCreatorWithReservedData
-paper_reserved (reserved_answer.Done k) = done k
-paper_reserved (reserved_answer.Refused r) = refusal r
 
 -- data start, data size, total and FECF
 abbrev pub reservation : TransferFrameCreator → ℕ → TransferFrameCreatorWithReservedData

@@ -20,17 +20,17 @@ loop-place-init c = passed_none _ _ _
 
 pub loop-place-preserved : goal.loop-place-preserved
 loop-place-preserved c =
-    passed_more c.requires c.loop-place.invariant c.in-Done.frame (omega arith)
-    (answered c.args.recording.now c.loop-place.place c.in-Done.ensures)
+    passed_more c.requires c.loop-place.invariant c.in-Ok.frame (omega arith)
+    (answered c.args.recording.now c.loop-place.place c.in-Ok.ensures)
     (record { spacecraft = omega arith; channel = omega arith; map = omega arith; count = omega arith })
     c.len_frame-place.ensures
     c.put_line-at.ensures
 
-pub returns-in-Refused : goal.returns-in-Refused
-returns-in-Refused c =
+pub returns-in-Err : goal.returns-in-Err
+returns-in-Err c =
     let l = c.loop-place in
     let whole = passed_refused c.requires l.invariant (omega arith) (omega (arith, c.number.ensures))
-    (answered c.args.recording.now l.place c.in-Refused.ensures)
+    (answered c.args.recording.now l.place c.in-Err.ensures)
     (told_as (ap (summary l.frames l.place) c.number.ensures) c.put_summary.ensures) in
     record { told = whole.0; recording_len_bound = whole.1 }
 

@@ -1,7 +1,6 @@
 -- The octets are a good form exactly if they have its shape, each flag is 0 or 1, and each entry is admitted.
 use Rattle.std.proofs.Common.{◌≡◌, ℕ, ◌+◌, ◌*◌, List, get_or, sym, ap, subst, arith}
 use Rattle.uslp_kinds.specs.Outcome.{done}
-use Rattle.uslp_kinds.specs.Answers.{paper_done}
 use Rattle.uslp_record.specs.Record.{keeping}
 use Rattle.uslp_record.specs.declared.ChannelRecord.{ChannelRecord}
 use Rattle.uslp_record.specs.declared.Recorded.{Recorded}
@@ -11,6 +10,7 @@ use Rattle.uslp_form.specs.FromRow.{unheard_long}
 use Rattle.uslp_saved.specs.Reading.{first_count, second_count, AllAdmitted}
 use Rattle.uslp_saved.proofs.Told.{restores_good, restores_shapeless, restores_flagless, restores_bad}
 use Rattle.uslp_saved.proofs.restore.Goals as goal
+use Rattle.uslp_kinds.specs.Answers.{paper}
 
 -- so many were counted, where n octets are passed between the counts
 abbrev both : List ℕ → ℕ → ℕ
@@ -22,7 +22,7 @@ total_is f s n e = ap (λ (m : ℕ). get_or s 0 0 + get_or s (1 + m) 0) e
 
 -- the answer and the record of a call that was refused or done
 abbrev Leaves : Form → ChannelRecord → List ℕ → Recorded → Type 0
-Leaves f r s x = Restoring f r s (keeping (paper_done x.answer) x.next)
+Leaves f r s x = Restoring f r s (keeping (paper x.answer) x.next)
 
 -- the record that was read, where each entry of it was judged
 abbrev Admits : Form → ChannelRecord → List ℕ → ℕ → Type 0
