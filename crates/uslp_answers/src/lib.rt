@@ -73,7 +73,7 @@ pub fn say_refusal<W: Write>(out: &mut W, refusal: Refusal) -> io::Result<()> {
         Refusal::BadChecksum { stored, computed } => say_two(out, stored as u64, computed as u64),
         Refusal::FrameTooShort { length, needed } => say_two(out, length as u64, needed as u64),
         Refusal::BadCount { count, width } => say_two(out, count, width as u64),
-        Refusal::BadPointer(rule) => say_field(out, rule.number() as u64),
+        Refusal::BadPointer(rule) => say_field(out, u64::from(u8::from(rule))),
         Refusal::OtherWidth { frame, opened } => say_two(out, frame as u64, opened as u64),
         _ => Ok(()),
     }
@@ -100,12 +100,12 @@ pub(crate) fn say_header<W: Write>(out: &mut W, header: PrimaryHeader) -> io::Re
     let bypass = header.sequence_control_flag;
     let command = header.protocol_control_command_flag;
     say_field(out, header.spacecraft_id as u64)?;
-    say_field(out, dest.number() as u64)?;
+    say_field(out, u64::from(u8::from(dest)))?;
     say_field(out, header.vc_id as u64)?;
     say_field(out, header.map_id as u64)?;
     say_field(out, header.frame_len_field as u64)?;
-    say_field(out, bypass.number() as u64)?;
-    say_field(out, command.number() as u64)?;
+    say_field(out, u64::from(u8::from(bypass)))?;
+    say_field(out, u64::from(u8::from(command)))?;
     say_field(out, header.ocf_flag as u64)?;
     say_field(out, header.vc_frame_count_len as u64)?;
     say_field(out, header.vc_frame_count)
@@ -118,8 +118,8 @@ pub(crate) fn say_field_header<W: Write>(
     let rule = header.construction_rule;
     let id = header.uslp_protocol_id;
     let pointer = header.fhp_or_lvo;
-    say_field(out, rule.number() as u64)?;
-    say_field(out, id.number() as u64)?;
+    say_field(out, u64::from(u8::from(rule)))?;
+    say_field(out, u64::from(u8::from(id)))?;
     match pointer {
         None => say_none(out),
         Some(value) => say_field(out, value as u64),

@@ -5,7 +5,8 @@ ghost use Rattle.uslp_record.specs.Judging.{ahead, arrival_of, totals_after, fir
 ghost use Rattle.uslp_kinds.specs.Answers.{paper};
 
 use crate::{
-    Arrival, Channel, ChannelRecord, Recorded, MOST, SLOTS, Slot, SlotState, Totals, search};
+    Arrival, Channel, ChannelRecord, MOST, Recorded, SLOTS, Slot, SlotState, Totals, search,
+};
 use uslp_kinds::{MAX_COUNT_LEN, Refusal};
 
 impl ChannelRecord {
@@ -51,7 +52,12 @@ fn unheard(channels: ChannelRecord, refusal: Refusal) -> Recorded<Arrival>
 impl Slot {
     // The same for whoever holds the slot that the search found: a caller who replaces it copies no record.
     // Refuses BAD_FIELD, BAD_COUNT, OTHER_WIDTH, TOTAL_FULL.
-    pub fn judge_count(self, channel: Channel, width: u8, count: u64) -> Result<(Arrival, Slot), Refusal>
+    pub fn judge_count(
+        self,
+        channel: Channel,
+        width: u8,
+        count: u64,
+    ) -> Result<(Arrival, Slot), Refusal>
         ensures { paper result ≡ slot_judging self channel width count }
     {
         if width > MAX_COUNT_LEN {

@@ -174,7 +174,7 @@ pub fn same_channel(a: Channel, b: Channel) -> bool
     }
     let flag = a.sequence_control_flag;
     let other = b.sequence_control_flag;
-    flag.number() == other.number()
+    u8::from(flag) == u8::from(other)
 }
 
 // The first slot that holds the channel, or how many there are.

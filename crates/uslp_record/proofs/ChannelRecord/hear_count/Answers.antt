@@ -2,13 +2,13 @@
 use Rattle.std.proofs.Common.{sym, ap, ◌∙◌, arith}
 use Rattle.uslp_record.specs.Record.{Kept, keeping, applied}
 use Rattle.uslp_record.specs.declared.Arrival.{Arrival}
-use Rattle.uslp_record.specs.declared.CountHearing.{CountHearing}
+use Rattle.uslp_record.specs.declared.Recorded.{Recorded}
 use Rattle.uslp_record.proofs.Hears.{judging_wide, judging_count, judging_none, judging_slot, changing}
 use Rattle.uslp_record.proofs.ChannelRecord.hear_count.Goals as goal
 use Rattle.uslp_kinds.specs.Answers.{paper}
 
 -- a call that was heard or not, as it is said on paper
-abbrev said : CountHearing → Kept Arrival
+abbrev said : Recorded Arrival → Kept Arrival
 said h = keeping (paper h.answer) h.next
 
 pub returns-then-width-gt-MAX_COUNT_LEN : goal.returns-then-width-gt-MAX_COUNT_LEN
