@@ -4,7 +4,6 @@ use Rattle.uslp_octets.specs.Octets.{pack, unpack, named, word}
 use Rattle.uslp_octets.specs.Octets as octets
 use Rattle.uslp_kinds.specs.Outcome.{Outcome, done, refused, and_then, Written, only_if_done, first_of}
 use Rattle.uslp_kinds.specs.Kinds.{rule_number, rule_of, fixed_length, protocol_number, protocol_of}
-use Rattle.uslp_kinds.specs.Answers.{refusal}
 use Rattle.uslp_kinds.specs.declared.ConstructionRule.{ConstructionRule}
 use Rattle.uslp_kinds.specs.declared.ConstructionRule.TheVariants.{NoSegmentation}
 use Rattle.uslp_kinds.specs.declared.UslpProtocolId.{UslpProtocolId}

@@ -3,7 +3,6 @@ use Rattle.std.specs.Prelude.{ℕ, ◌+◌, ◌-◌, Bool, not, cond, ◌&&◌, 
 use Rattle.uslp_octets.specs.Octets.{word, part_in, part_at}
 use Rattle.uslp_checksum.specs.Checksum.{checksum_of}
 use Rattle.uslp_kinds.specs.Outcome.{Outcome, done, refused, and_then, first_of}
-use Rattle.uslp_kinds.specs.Answers.{refusal}
 use Rattle.uslp_kinds.specs.declared.ManagedParameters.{ManagedParameters}
 use Rattle.uslp_primary_header.specs.Header.{len_header, len_frame, header_reading}
 use Rattle.uslp_primary_header.specs.declared.PrimaryHeader.{PrimaryHeader}

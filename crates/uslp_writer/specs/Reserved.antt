@@ -2,7 +2,6 @@
 use Rattle.std.specs.Prelude.{ℕ, ◌+◌, ◌-◌, min, true, cond, ◌||◌, List, [], ◌∷◌, ◌++◌, length, take, drop, ltb}
 use Rattle.uslp_octets.specs.Octets.{overlaid}
 use Rattle.uslp_kinds.specs.Outcome.{Outcome, done, refused, and_then, Written, leaving, only_if_done, first_of}
-use Rattle.uslp_kinds.specs.Answers.{refusal}
 use Rattle.uslp_layout.specs.Layout.{data_start, ocf_octets, with_fecf}
 use Rattle.uslp_writer.specs.Frame.{total, header_octets, frame_checks}
 use Rattle.uslp_writer.specs.declared.TransferFrameCreator.{TransferFrameCreator}

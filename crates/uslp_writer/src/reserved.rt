@@ -46,7 +46,8 @@ impl TransferFrameCreatorWithReservedData {
     pub fn data(self, buf: &[u8]) -> &[u8]
         ensures { PartOf buf.entry (area_at self buf.now) (area_in self buf.now) result }
     {
-        if finish_len(self, buf.len()).is_err() {
+        let found = buf.len();
+        if finish_len(self, found).is_err() {
             return &buf[0..0];
         }
         let start = self.data_index;
@@ -59,7 +60,8 @@ impl TransferFrameCreatorWithReservedData {
     pub fn data_mut(self, buf: &mut [u8]) -> &mut [u8]
         ensures { PartOf (as_bor buf.entry) (area_at self buf.old) (area_in self buf.old) (as_bor result) }
     {
-        if finish_len(self, buf.len()).is_err() {
+        let found = buf.len();
+        if finish_len(self, found).is_err() {
             return &mut buf[0..0];
         }
         let start = self.data_index;
