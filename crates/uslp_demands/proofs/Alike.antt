@@ -1,6 +1,6 @@
 -- Two outcomes whose parts are equal are equal.
 use mathlib.Core.Path.{◌≡◌}
-use Rattle.uslp_kinds.proofs.Back.{back, one_to_one, paper_one}
+use Rattle.uslp_kinds.proofs.Back.{paper_one}
 use Rattle.std.specs.Prelude.{Result}
 use Rattle.uslp_kinds.specs.Answers.{paper}
 use Rattle.uslp_kinds.specs.declared.Refusal.{Refusal}

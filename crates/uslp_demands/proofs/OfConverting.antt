@@ -8,7 +8,7 @@ use lib.Dec.{lit<, lit≤}
 use lib.ListN.{length, take, drop}
 use Rattle.uslp_octets.specs.Octets.{word}
 use Rattle.uslp_kinds.specs.Outcome.{done, refused, Written, leaving}
-use Rattle.uslp_kinds.proofs.Back.{back, one_to_one, leaving_one, paper_one}
+use Rattle.uslp_kinds.proofs.Back.{leaving_one, paper_one}
 use Rattle.uslp_kinds.proofs.Outcomes.{not_done}
 use Rattle.uslp_record.specs.declared.SlotState.{SlotState}
 use Rattle.uslp_record.specs.declared.ChannelRecord.{ChannelRecord}

@@ -7,7 +7,7 @@ use denote.Ref.{Bor}
 use Rattle.uslp_kinds.specs.Managed.{no_fecf}
 use Rattle.uslp_kinds.specs.Kinds.{bypass_number}
 use Rattle.uslp_kinds.specs.declared.BypassSequenceControlFlag.TheVariants.{SequenceControlledQoS, ExpeditedQoS}
-use Rattle.uslp_kinds.proofs.Back.{back, one_to_one, paper_one}
+use Rattle.uslp_kinds.proofs.Back.{paper_one}
 use Rattle.uslp_kinds.proofs.Outcomes.{not_done}
 use Rattle.uslp_primary_header.specs.Header.{with_count, header_reading}
 use Rattle.uslp_primary_header.specs.declared.PrimaryHeader.{PrimaryHeader}

@@ -11,7 +11,7 @@ use Rattle.uslp_kinds.specs.declared.SourceOrDestField.TheVariants.{Source, Dest
 use Rattle.uslp_kinds.specs.declared.ConstructionRule.TheVariants.{PacketSpanningMultipleFrames, NoSegmentation}
 use Rattle.uslp_kinds.specs.declared.Refusal.TheVariants.{Truncated}
 use Rattle.uslp_kinds.proofs.Outcomes.{done_one, not_done}
-use Rattle.uslp_kinds.proofs.Back.{back, one_to_one, paper_one}
+use Rattle.uslp_kinds.proofs.Back.{paper_one}
 use Rattle.uslp_primary_header.specs.Header.{header_reading}
 use Rattle.uslp_primary_header.specs.declared.PrimaryHeader.{PrimaryHeader}
 use Rattle.uslp_data_field_header.specs.Field.{field_reading}

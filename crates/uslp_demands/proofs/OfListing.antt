@@ -3,7 +3,7 @@ use mathlib.Core.Path.{◌≡◌, refl, sym, ◌∙◌}
 use mathlib.Core.List.{[], ◌∷◌}
 use Prim.Native.Nat.{ℕ}
 use native.Mathlib.Omega.{arith}
-use Rattle.uslp_kinds.proofs.Back.{back, one_to_one, leaving_one, paper_one}
+use Rattle.uslp_kinds.proofs.Back.{leaving_one, paper_one}
 use Rattle.uslp_kinds.specs.declared.Refusal.TheVariants.{ShortTarget}
 use Rattle.uslp_primary_header.specs.Header.{header_reading}
 use Rattle.uslp_data_field_header.specs.Field.{field_reading}

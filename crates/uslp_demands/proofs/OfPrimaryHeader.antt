@@ -4,7 +4,7 @@ use mathlib.Core.Bool.{true, false}
 use mathlib.Core.List.{List, [], ◌∷◌}
 use Prim.Native.Nat.{ℕ, ◌^◌, ◌-◌}
 use native.Mathlib.Omega.{arith}
-use Rattle.uslp_kinds.proofs.Back.{back, one_to_one, leaving_one, paper_one}
+use Rattle.uslp_kinds.proofs.Back.{leaving_one, paper_one}
 use Rattle.uslp_kinds.proofs.Outcomes.{done_one}
 use Rattle.uslp_kinds.specs.declared.SourceOrDestField.TheVariants.{Source, Dest}
 use Rattle.uslp_kinds.specs.declared.BypassSequenceControlFlag.TheVariants.{SequenceControlledQoS}
@@ -16,6 +16,7 @@ use Rattle.uslp_primary_header.proofs as header
 use Rattle.uslp_demands.specs.Promise.{Function, function, at, at_mut, Allows, Settles}
 use Rattle.uslp_roundtrip.specs.Samples.{some, made}
 use Rattle.uslp_demands.proofs.Alike.{alike}
+use Rattle.std.specs.Borrow.{Bor}
 use Rattle.std.specs.Prelude.{Ok, Err}
 
 -- the functions, each with its promise
@@ -61,8 +62,8 @@ fn_len_frame =
 
 abbrev fn_equals : Function
 fn_equals =
-    function header.PrimaryHeader.equals.Kinds.ps header.PrimaryHeader.equals.Kinds.r
-    header.PrimaryHeader.equals.Reads.Pre header.PrimaryHeader.equals.Reads.Learnt
+    function header.PrimaryHeaderPartialEq.eq.Kinds.ps header.PrimaryHeaderPartialEq.eq.Kinds.r
+    header.PrimaryHeaderPartialEq.eq.Reads.Pre header.PrimaryHeaderPartialEq.eq.Reads.Learnt
 
 abbrev fn_from_bytes : Function
 fn_from_bytes =
@@ -218,12 +219,16 @@ len_frame_wrapped e = omega arith
 pub equals_settles : Settles fn_equals
 equals_settles = record { total = λ κs a. tt; same = λ κs a x y s t. alike (s ∙ sym t) refl }
 
+-- a header that is looked at
+abbrev seen : PrimaryHeader → Bor PrimaryHeader
+seen h = record { ref_ptr = (0, 0); now = h }
+
 -- compares the width
-pub equals_width : Allows fn_equals tt (with_count 2 7 some, (some, tt)) (false, (tt, (tt, tt))) → ⊥
+pub equals_width : Allows fn_equals ([], ([], tt)) (seen (with_count 2 7 some), (seen some, tt)) (false, (tt, (tt, tt))) → ⊥
 equals_width e = let z : ◌≡◌ {A = ℕ} 0 1 = cc in omega arith
 
 -- skips the count with the width
-pub equals_count : Allows fn_equals tt (made, (some, tt)) (true, (tt, (tt, tt))) → ⊥
+pub equals_count : Allows fn_equals ([], ([], tt)) (seen made, (seen some, tt)) (true, (tt, (tt, tt))) → ⊥
 equals_count e = let z : ◌≡◌ {A = ℕ} 0 1 = cc in omega arith
 
 pub from_bytes_settles : Settles fn_from_bytes

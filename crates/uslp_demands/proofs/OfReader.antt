@@ -12,7 +12,7 @@ use Rattle.uslp_octets.specs.Octets.{AreOctets}
 use Rattle.uslp_checksum.specs.Checksum.{bit, step, feed, lows, bits, checksum_of}
 use Rattle.uslp_kinds.specs.Managed.{fecf, no_fecf}
 use Rattle.uslp_kinds.specs.Outcome.{Outcome, refused}
-use Rattle.uslp_kinds.proofs.Back.{back, one_to_one, paper_one}
+use Rattle.uslp_kinds.proofs.Back.{paper_one}
 use Rattle.uslp_kinds.specs.declared.ManagedParameters.{ManagedParameters}
 use Rattle.uslp_kinds.specs.declared.SourceOrDestField.TheVariants.{Source, Dest}
 use Rattle.uslp_kinds.specs.declared.ConstructionRule.TheVariants.{PacketSpanningMultipleFrames, NoSegmentation}

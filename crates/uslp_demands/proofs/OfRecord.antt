@@ -4,7 +4,7 @@ use mathlib.Core.Bool.{true}
 use Prim.Native.Nat.{ℕ, ◌^◌}
 use native.Mathlib.Omega.{arith}
 use lib.ListN.{get_or}
-use Rattle.uslp_kinds.proofs.Back.{back, one_to_one, paper_one}
+use Rattle.uslp_kinds.proofs.Back.{paper_one}
 use Rattle.uslp_kinds.proofs.Outcomes.{not_done, done_one}
 use Rattle.uslp_kinds.specs.declared.Refusal.TheVariants.{NotOpen, TotalFull}
 use Rattle.uslp_record.specs.Slots.{find, vacant, slot_of, state_at, put, empty_record}

@@ -9,7 +9,7 @@ use lib.Dec.{lit<, lit≤}
 use lib.ListN.{length, drop}
 use Rattle.uslp_octets.specs.Octets.{word}
 use Rattle.uslp_kinds.specs.Outcome.{done, refused, Written, leaving}
-use Rattle.uslp_kinds.proofs.Back.{back, one_to_one, leaving_one, paper_one}
+use Rattle.uslp_kinds.proofs.Back.{leaving_one, paper_one}
 use Rattle.uslp_kinds.proofs.Outcomes.{not_done}
 use Rattle.uslp_record.specs.Slots.{state_holds}
 use Rattle.uslp_record.specs.Record.{Kept, keeping, most}

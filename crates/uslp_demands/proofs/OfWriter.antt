@@ -7,7 +7,7 @@ use Prim.Native.Nat.{ℕ}
 use native.Mathlib.Omega.{arith}
 use lib.ListN.{get_or}
 use denote.Ref.{Bor, MutBor, as_bor}
-use Rattle.uslp_kinds.proofs.Back.{back, one_to_one, leaving_one, paper_one}
+use Rattle.uslp_kinds.proofs.Back.{leaving_one, paper_one}
 use Rattle.uslp_kinds.proofs.Outcomes.{done_one}
 use Rattle.uslp_kinds.specs.declared.Refusal.TheVariants.{ShortTarget}
 use Rattle.uslp_checksum.specs.Checksum.{bit, step, feed, lows, bits, checksum_of}
