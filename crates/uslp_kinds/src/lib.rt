@@ -103,35 +103,20 @@ impl Refusal {
         ensures { result ≡ refusal_number self }
     {
         match self {
-            Refusal::ShortSource {
-                found: _,
-                expected: _,
-            } => 1,
-            Refusal::ShortTarget {
-                found: _,
-                expected: _,
-            } => 2,
+            Refusal::ShortSource { .. } => 1,
+            Refusal::ShortTarget { .. } => 2,
             Refusal::Truncated => 3,
             Refusal::BadVersion(_) => 4,
             Refusal::BadProtocol(_) => 5,
-            Refusal::BadChecksum {
-                stored: _,
-                computed: _,
-            } => 6,
-            Refusal::FrameTooShort {
-                length: _,
-                needed: _,
-            } => 7,
-            Refusal::BadCount { count: _, width: _ } => 8,
+            Refusal::BadChecksum { .. } => 6,
+            Refusal::FrameTooShort { .. } => 7,
+            Refusal::BadCount { .. } => 8,
             Refusal::BadPointer(_) => 9,
             Refusal::BadField => 10,
             Refusal::OcfMissing => 11,
             Refusal::TooLong => 12,
             Refusal::NotOpen => 13,
-            Refusal::OtherWidth {
-                frame: _,
-                opened: _,
-            } => 14,
+            Refusal::OtherWidth { .. } => 14,
             Refusal::AlreadyOpen => 15,
             Refusal::TableFull => 16,
             Refusal::TotalFull => 17,
@@ -145,13 +130,7 @@ impl Refusal {
         ensures { result ≡ lacking_of self }
     {
         match self {
-            Refusal::ShortSource { found, expected } => {
-                if expected < found {
-                    0
-                } else {
-                    expected - found
-                }
-            }
+            Refusal::ShortSource { found, expected } => expected.saturating_sub(found),
             _ => 0,
         }
     }
@@ -171,10 +150,10 @@ impl From<u8> for SourceOrDestField {
 }
 
 impl From<SourceOrDestField> for u8 {
-    ghost from_gives = { λ field number. number ≡ source_or_dest_number field };
+    ghost from_gives = { λ role number. number ≡ source_or_dest_number role };
 
-    fn from(field: SourceOrDestField) -> u8 {
-        field as u8
+    fn from(role: SourceOrDestField) -> u8 {
+        role as u8
     }
 }
 
@@ -192,10 +171,10 @@ impl From<u8> for BypassSequenceControlFlag {
 }
 
 impl From<BypassSequenceControlFlag> for u8 {
-    ghost from_gives = { λ field number. number ≡ bypass_number field };
+    ghost from_gives = { λ bypass number. number ≡ bypass_number bypass };
 
-    fn from(field: BypassSequenceControlFlag) -> u8 {
-        field as u8
+    fn from(bypass: BypassSequenceControlFlag) -> u8 {
+        bypass as u8
     }
 }
 
@@ -213,10 +192,10 @@ impl From<u8> for ProtocolControlCommandFlag {
 }
 
 impl From<ProtocolControlCommandFlag> for u8 {
-    ghost from_gives = { λ field number. number ≡ command_number field };
+    ghost from_gives = { λ command number. number ≡ command_number command };
 
-    fn from(field: ProtocolControlCommandFlag) -> u8 {
-        field as u8
+    fn from(command: ProtocolControlCommandFlag) -> u8 {
+        command as u8
     }
 }
 

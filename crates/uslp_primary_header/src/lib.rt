@@ -81,10 +81,11 @@ impl PrimaryHeader {
                 width: count_len,
             });
         }
-        let mut header = self;
-        header.vc_frame_count_len = count_len;
-        header.vc_frame_count = count;
-        Ok(header)
+        Ok(PrimaryHeader {
+            vc_frame_count_len: count_len,
+            vc_frame_count: count,
+            ..self
+        })
     }
 
     // The header with this total of octets, which it keeps less one. Refuses TOO_LONG.
@@ -95,10 +96,11 @@ impl PrimaryHeader {
         if frame_len > MAX_FRAME_LEN {
             return Err(Refusal::TooLong);
         }
-        let mut header = self;
         // a length of 0 is kept as 1, as in the Rust
-        header.frame_len_field = frame_len.saturating_sub(1) as u16;
-        Ok(header)
+        Ok(PrimaryHeader {
+            frame_len_field: frame_len.saturating_sub(1) as u16,
+            ..self
+        })
     }
 
     pub fn vc_frame_count(self) -> u64

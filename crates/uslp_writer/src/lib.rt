@@ -79,7 +79,9 @@ fn ocf_missing(frame: TransferFrameCreator) -> bool
 fn with_ocf_flag(frame: TransferFrameCreator) -> PrimaryHeader
     ensures { result ≡ flagged frame }
 {
-    let mut header = frame.primary_header;
-    header.ocf_flag = header.ocf_flag || frame.operational_control_field.is_some();
-    header
+    let header = frame.primary_header;
+    PrimaryHeader {
+        ocf_flag: header.ocf_flag || frame.operational_control_field.is_some(),
+        ..header
+    }
 }
