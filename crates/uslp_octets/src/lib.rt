@@ -8,11 +8,8 @@ ghost use Rattle.uslp_octets.specs.Octets.{octets, word, overlaid, part_in, part
 pub fn copy_octets(from: &[u8], to: &mut [u8])
     ensures { to.new ≡ overlaid from.now to.old }
 {
-    let mut i: usize = 0;
-    while i < from.len() && i < to.len() {
-        to[i] = from[i];
-        i += 1;
-    }
+    let n = from.len().min(to.len());
+    to[..n].copy_from_slice(&from[..n]);
 }
 
 // Fills `to` with a number's low octets.
@@ -20,9 +17,7 @@ pub fn put_be_number(value: u64, to: &mut [u8])
     ensures { to.new ≡ octets (length to.old) value }
 {
     let mut rest = value;
-    let mut i: usize = to.len();
-    while 0 < i {
-        i -= 1;
+    for i in (0..to.len()).rev() {
         to[i] = (rest % 256) as u8;
         rest = rest / 256;
     }
@@ -45,10 +40,8 @@ pub fn be_number(octets: &[u8]) -> u64
     ensures { result ≡ word 0 (length octets.now) octets.now % 2 ^ 64 }
 {
     let mut number: u64 = 0;
-    let mut i: usize = 0;
-    while i < octets.len() {
-        number = moved_in(number, octets[i]);
-        i += 1;
+    for octet in octets {
+        number = moved_in(number, *octet);
     }
     number
 }
@@ -57,15 +50,10 @@ pub fn be_number(octets: &[u8]) -> u64
 pub fn part(octets: &[u8], start: usize, n: usize) -> &[u8]
     ensures { PartOf octets.entry (part_at start n octets.now) (part_in start n octets.now) result }
 {
-    let found = octets.len();
-    if start > found {
-        return &octets[0..0];
+    match start.checked_add(n) {
+        Some(end) if end <= octets.len() => &octets[start..end],
+        _ => &octets[..0],
     }
-    if n > found - start {
-        return &octets[0..0];
-    }
-    let end = start + n;
-    &octets[start..end]
 }
 
 // One octet more at the end; the eight last stay.
