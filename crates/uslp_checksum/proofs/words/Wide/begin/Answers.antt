@@ -2,7 +2,7 @@ use Rattle.std.proofs.Common.{arith, ap₂, ◌∙◌, ℕ, ◌-◌, ◌*◌, �
 use Rattle.std.specs.Int.Bits.{bit_xor}
 use Rattle.uslp_checksum.specs.Words.{fed, stands_for}
 use Rattle.uslp_checksum.proofs.Folding.{begin_law}
-use Rattle.uslp_checksum.proofs.words.begin.Goals as goal
+use Rattle.uslp_checksum.proofs.words.Wide.begin.Goals as goal
 
 pub returns : goal.returns
 unfolding stands_for
