@@ -27,6 +27,7 @@ pub fn update(register: u16, message: &[u8]) -> u16
 }
 
 // The register after a message, from all ones.
+#[tactic(auto, unfolding(crate::specs::Checksum::checksum_of))]
 pub fn checksum(message: &[u8]) -> u16
     ensures { result ≡ checksum_of message.now }
 {

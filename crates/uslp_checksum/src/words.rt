@@ -18,6 +18,7 @@ pub struct Wide {
 
 impl Wide {
     // The octets that fill no word come first, as a number: zeros before it lead nowhere. The register is added to the first 16 bits, wherever they fall.
+    #[tactic(auto, unfolding(crate::specs::Words::stands_for), using(crate::proofs::Folding::begin_law))]
     pub(crate) fn begin(register: u16, message: &[u8], head: usize) -> Self
         requires { (head < 8) × (head + 8 ≤ length message.now) }
         ensures { stands_for result ≡ feed register (bits (take (head + 8) message.now)) }
@@ -35,6 +36,7 @@ impl Wide {
     }
 
     // The word at the top moves to x^192, to x^80, which lies across two words, and to 1.
+    #[tactic(auto, unfolding(crate::specs::Words::stands_for), using(crate::proofs::Folding::word_law))]
     pub(crate) fn take_word(self, word: u64) -> Self
         ensures { stands_for result ≡ fed (stands_for self) word }
     {
@@ -48,6 +50,7 @@ impl Wide {
     }
 
     // The register that the four words stand for.
+    #[tactic(auto, unfolding(crate::specs::Words::stands_for))]
     pub(crate) fn register(self) -> u16
         ensures { result ≡ stands_for self }
     {
@@ -56,6 +59,7 @@ impl Wide {
 }
 
 // One word in place of two, by P^4 = x^64 + x^48 + x^20 + 1.
+#[tactic(auto, using(crate::proofs::Folding::join_law))]
 fn join(high: u64, low: u64) -> u64
     ensures { fed 0 result ≡ fed (fed 0 high) low }
 {
@@ -65,6 +69,7 @@ fn join(high: u64, low: u64) -> u64
 
 // The q of which the multiple q * P^4 has `high` as its upper word. That word is q ^ (q >> 16) ^ (q >> 44); made so four times, q is itself again,
 // since a square doubles the shifts and 64 places are all of it. So q is `high` made so three times: twice at once, and once.
+#[tactic(auto, using(crate::proofs::Folding::quotient_law))]
 fn quotient(high: u64) -> u64
     ensures { bit_xor (bit_xor result (result / 2 ^ 16)) (result / 2 ^ 44) ≡ high }
 {
@@ -73,6 +78,7 @@ fn quotient(high: u64) -> u64
 }
 
 // The register that a word leads to: the remainder by P, whose quotient q is found in the same way, by P^4, P^2 and P in turn.
+#[tactic(auto, using(crate::proofs::Folding::narrow_law))]
 fn narrow(word: u64) -> u16
     ensures { result ≡ fed 0 word }
 {
