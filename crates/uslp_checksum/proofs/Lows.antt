@@ -112,7 +112,8 @@ module _ (m : List ℕ) (oct : AreOctets m) (i : ℕ) where
 module _ (s : List ℕ) (oct : AreOctets s) (k : ℕ) (room : k ≤ length s) where
   pub front_number : k ≤ 8 → word 0 (length (take k s)) (take k s) % 2 ^ 64 ≡ word 0 k s
   front_number h =
-      ap (λ (j : ℕ). word 0 j (take k s) % 2 ^ 64) (length-take-le k s room) ∙ ap (λ (x : ℕ). x % 2 ^ 64) (word_take 0 k k s (omega arith)) ∙ word_fits s 0 oct k h
+      ap (λ (j : ℕ). word 0 j (take k s) % 2 ^ 64) (length-take-le k s room)
+      ∙ ap (λ (x : ℕ). x % 2 ^ 64) (word_take 0 k k s (omega arith)) ∙ word_fits s 0 oct k h
 
   pub front_fed : (r : ℕ) → feed (feed r (lows (8 * k) (word 0 k s))) (bits (drop k s)) ≡ feed r (bits s)
   front_fed r =

@@ -17,7 +17,8 @@ pub struct Wide {
 }
 
 impl Wide {
-    // The octets that fill no word come first, as a number: zeros before it lead nowhere. The register is added to the first 16 bits, wherever they fall.
+    // The octets that fill no word come first, as a number: zeros before it lead nowhere.
+    // The register is added to the first 16 bits, wherever they fall.
     #[tactic(auto, unfolding(crate::specs::Words::stands_for), using(crate::proofs::Folding::begin_law))]
     pub(crate) fn begin(register: u16, message: &[u8], head: usize) -> Self
         requires { (head < 8) × (head + 8 ≤ length message.now) }

@@ -281,8 +281,8 @@ rest_less b n i v h k =
     div-div-eq-div-mul v (b ^ (n - i)) b ∙ ap (λ (p : ℕ). v / p) (sym (pow-suc b (n - i)) ∙ ap (λ (m : ℕ). b ^ m) (sym f))
 
 -- a turn of a loop that fills a run with a number's places, from the last on: what is left of the number, and the cells
-pub filled_turn : (run : ℕ → List ℕ) (put : ℕ → ℕ) (b v : ℕ) → ((k : ℕ) → run (suc k) ≡ put (v / b ^ k % b) ∷ run k) → (d t : List ℕ) (r i : ℕ)
-    → 0 < i → i ≤ length d → r ≡ v / b ^ (length d - i) → t ≡ take i d ++ run (length d - i)
+pub filled_turn : (run : ℕ → List ℕ) (put : ℕ → ℕ) (b v : ℕ) → ((k : ℕ) → run (suc k) ≡ put (v / b ^ k % b) ∷ run k)
+    → (d t : List ℕ) (r i : ℕ) → 0 < i → i ≤ length d → r ≡ v / b ^ (length d - i) → t ≡ take i d ++ run (length d - i)
     → (r / b ≡ v / b ^ (length d - (i - 1))) × (set t (i - 1) (put (r % b)) ≡ take (i - 1) d ++ run (length d - (i - 1)))
 filled_turn run put b v more d t r i h k left filled = (
   ap (λ (x : ℕ). x / b) left ∙ rest_less b (length d) i v h k,

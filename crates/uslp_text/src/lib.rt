@@ -19,6 +19,7 @@ fn decimal_len(value: u64) -> usize
 }
 
 // Fills `to` with a number's low decimal digits.
+// `put_be_number` is this loop by 256; one for both would ask for a base, a zero and a definition more.
 fn put_digits(value: u64, to: &mut [u8])
     ensures { to.new ≡ digits (length to.old) value }
 {
@@ -41,6 +42,7 @@ pub fn put_text(text: &[u8], out: &mut [u8], at: usize) -> usize
 }
 
 // Puts a number's decimal numeral into a buffer, as a text.
+// Not by `write!`: std says what it wrote where it gives `Ok`, and not that it does.
 pub fn put_decimal(value: u64, out: &mut [u8], at: usize) -> usize
     ensures { Told (decimal value) at out.old result out.new }
 {

@@ -7,4 +7,5 @@ pub loop-i-preserved : goal.loop-i-preserved
 loop-i-preserved c =
     let v = c.args.value in
     let l = c.loop-i in
-    filled_turn (λ k. octets k v) (λ x. x) 256 v (λ k. refl) c.args.to.now l.to l.rest l.i (omega arith) (omega arith) l.invariant.0 l.invariant.1
+    filled_turn (λ k. octets k v) (λ x. x) 256 v (λ k. refl) c.args.to.now l.to l.rest l.i
+    (omega arith) (omega arith) l.invariant.0 l.invariant.1

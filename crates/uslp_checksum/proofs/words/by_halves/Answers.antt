@@ -39,7 +39,8 @@ loop-k-preserved c =
           ∙ front_number s l.invariant.0 k w.if-k-rest.true (omega (arith, e.0)) in (
             subst AreOctets (sym behind) (are_drop k s l.invariant.0),
             omega (arith, ap length behind, length-drop k s, e.1, e.2, l.invariant.1),
-            ap₂ (λ (x : ℕ) (y : List ℕ). feed x (bits y)) (w.current-is ∙ w.take-current.ensures ∙ ap (λ (x : ℕ). feed l.current (lows (8 * k) x)) n) behind
+            ap₂ (λ (x : ℕ) (y : List ℕ). feed x (bits y))
+                (w.current-is ∙ w.take-current.ensures ∙ ap (λ (x : ℕ). feed l.current (lows (8 * k) x)) n) behind
                 ∙ front_fed s l.invariant.0 k w.if-k-rest.true l.current
                 ∙ l.invariant.2,
           )
@@ -56,4 +57,5 @@ returns c =
     let l = c.loop-k in
     let all : 3 ≡ l.k-index = omega arith in
     let few : length l.rest.now ≤ 0 = omega (arith, l.invariant.1, ap (λ (i : ℕ). 2 ^ (3 - i)) all) in
-    sym (feed_none l.current) ∙ ap (λ (x : List ℕ). feed l.current (bits x)) (sym (drop_of_length-le l.rest.now {i = 0} few)) ∙ l.invariant.2
+    sym (feed_none l.current) ∙ ap (λ (x : List ℕ). feed l.current (bits x)) (sym (drop_of_length-le l.rest.now {i = 0} few))
+    ∙ l.invariant.2

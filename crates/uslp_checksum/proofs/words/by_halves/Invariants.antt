@@ -5,4 +5,6 @@ use Rattle.uslp_checksum.specs.Checksum.{feed, bits}
 use Rattle.uslp_checksum.proofs.words.by_halves.Given as goal
 
 abbrev pub invariant-loop-k : goal.invariant-loop-k
-invariant-loop-k l = AreOctets l.rest × (length l.rest < 2 ^ (3 - l.k-index)) × (feed l.current (bits l.rest) ≡ feed l.register (bits l.message))
+invariant-loop-k l =
+    AreOctets l.rest × (length l.rest < 2 ^ (3 - l.k-index))
+    × (feed l.current (bits l.rest) ≡ feed l.register (bits l.message))
