@@ -9,7 +9,7 @@ ghost use Rattle.uslp_data_field_header.specs.Field.{paper_field, pointer_bad, l
 use uslp_kinds::{
     ConstructionRule, FhpOrLvo, LengthAnswer, ProtocolIdAnswer, Refusal, UslpProtocolId,
 };
-use uslp_octets::{be_u16, put_be_number};
+use uslp_octets::put_be_number;
 
 #[derive(Clone, Copy)]
 pub struct TransferFrameDataFieldHeader {
@@ -101,7 +101,7 @@ impl TransferFrameDataFieldHeader {
             if found < 3 {
                 return DataFieldHeaderAnswer::Refused(Refusal::ShortSource { found, expected: 3 });
             }
-            return with_protocol(rule, first % 32, FhpOrLvo::Present(be_u16(buf[1], buf[2])));
+            return with_protocol(rule, first % 32, FhpOrLvo::Present(u16::from_be_bytes([buf[1], buf[2]])));
         }
         with_protocol(rule, first % 32, FhpOrLvo::Absent)
     }

@@ -12,7 +12,7 @@ pub fn copy_octets(from: &[u8], to: &mut [u8])
     to[..n].copy_from_slice(&from[..n]);
 }
 
-// Fills `to` with a number's low octets.
+// Fills `to` with a number's low octets, from the last on: by index, since std says of `iter_mut().rev()` only that the length stays.
 pub fn put_be_number(value: u64, to: &mut [u8])
     ensures { to.new ≡ octets (length to.old) value }
 {
@@ -21,18 +21,6 @@ pub fn put_be_number(value: u64, to: &mut [u8])
         to[i] = (rest % 256) as u8;
         rest = rest / 256;
     }
-}
-
-pub fn be_u16(a: u8, b: u8) -> u16
-    ensures { result ≡ a * 256 + b }
-{
-    a as u16 * 256 + b as u16
-}
-
-pub fn be_u32(a: u8, b: u8, c: u8, d: u8) -> u32
-    ensures { result ≡ ((a * 256 + b) * 256 + c) * 256 + d }
-{
-    ((a as u32 * 256 + b as u32) * 256 + c as u32) * 256 + d as u32
 }
 
 // The number that octets make, of more than eight the last eight.
@@ -47,6 +35,7 @@ pub fn be_number(octets: &[u8]) -> u64
 }
 
 // The n octets from a place on as a part of those lent; nothing where they do not reach so far.
+// Not by `get`, which promises what a part shows and not where it lies.
 pub fn part(octets: &[u8], start: usize, n: usize) -> &[u8]
     ensures { PartOf octets.entry (part_at start n octets.now) (part_in start n octets.now) result }
 {

@@ -12,7 +12,7 @@ ghost use Rattle.uslp_layout.specs.Layout.{data_start};
 use uslp_checksum::checksum;
 use uslp_data_field_header::{DataFieldHeaderAnswer, TransferFrameDataFieldHeader};
 use uslp_kinds::{ManagedParameters, OperationalControlField, Refusal, SourceOrDestField};
-use uslp_octets::{be_u16, be_u32, part};
+use uslp_octets::part;
 use uslp_primary_header::{HeaderAnswer, PrimaryHeader};
 
 // What a frame says, and where its data stand in the octets that it was read from.
@@ -159,7 +159,7 @@ fn read_body(
         return FrameAnswer::Refused(Refusal::FrameTooShort { length, needed });
     }
     if managed.has_fecf {
-        let stored = be_u16(buf[length - 2], buf[length - 1]);
+        let stored = u16::from_be_bytes([buf[length - 2], buf[length - 1]]);
         // the register as it stands before the FECF: the one pass gives the test and the number that a refusal shows
         let computed = checksum(&buf[0..length - 2]);
         if stored != computed {
@@ -195,7 +195,7 @@ fn ocf_at(buf: &[u8], flag: bool, at: usize) -> OperationalControlField
     ensures { result ≡ ocf_at flag at buf.now }
 {
     if flag {
-        OperationalControlField::Present(be_u32(buf[at], buf[at + 1], buf[at + 2], buf[at + 3]))
+        OperationalControlField::Present(u32::from_be_bytes([buf[at], buf[at + 1], buf[at + 2], buf[at + 3]]))
     } else {
         OperationalControlField::Absent
     }
