@@ -7,7 +7,7 @@ ghost use Rattle.uslp_data_field_header.specs.Field.{pointer_bad, len_field, fie
 ghost use Rattle.uslp_kinds.specs.Answers.{paper};
 
 use uslp_kinds::{ConstructionRule, Refusal, UslpProtocolId};
-use uslp_octets::{be_u16, put_be_number};
+use uslp_octets::put_be_number;
 
 #[derive(Clone, Copy, Debug, PartialEq, Eq)]
 pub struct TransferFrameDataFieldHeader {
@@ -90,7 +90,7 @@ impl TransferFrameDataFieldHeader {
             if found < 3 {
                 return Err(Refusal::ShortSource { found, expected: 3 });
             }
-            return with_protocol(rule, first % 32, Some(be_u16(buf[1], buf[2])));
+            return with_protocol(rule, first % 32, Some(u16::from_be_bytes([buf[1], buf[2]])));
         }
         with_protocol(rule, first % 32, None)
     }

@@ -13,7 +13,7 @@ ghost use Rattle.uslp_kinds.specs.Answers.{paper};
 use uslp_checksum::checksum;
 use uslp_data_field_header::TransferFrameDataFieldHeader;
 use uslp_kinds::{ManagedParameters, Refusal, SourceOrDestField};
-use uslp_octets::{be_u16, be_u32, part};
+use uslp_octets::part;
 use uslp_primary_header::PrimaryHeader;
 
 // What a frame says, and where its data stand in the octets that it was read from.
@@ -148,7 +148,7 @@ fn read_body(
         return Err(Refusal::FrameTooShort { length, needed });
     }
     if managed.has_fecf {
-        let stored = be_u16(buf[length - 2], buf[length - 1]);
+        let stored = u16::from_be_bytes([buf[length - 2], buf[length - 1]]);
         // the register as it stands before the FECF: the one pass gives the test and the number that a refusal shows
         let computed = checksum(&buf[0..length - 2]);
         if stored != computed {
@@ -183,7 +183,7 @@ fn ocf_at(buf: &[u8], flag: bool, at: usize) -> Option<u32>
     ensures { result ≡ ocf_at flag at buf.now }
 {
     if flag {
-        Some(be_u32(buf[at], buf[at + 1], buf[at + 2], buf[at + 3]))
+        Some(u32::from_be_bytes([buf[at], buf[at + 1], buf[at + 2], buf[at + 3]]))
     } else {
         None
     }

@@ -10,7 +10,7 @@ use crate::columns::{flag_at, flag_len, heard_octets, unheard_octets};
 use crate::saving::rank_of;
 use uslp_form::Form;
 use uslp_kinds::{BypassSequenceControlFlag, MAX_COUNT_LEN, MAX_VC_ID};
-use uslp_octets::{be_number, be_u16};
+use uslp_octets::be_number;
 use uslp_record::{Channel, ChannelRecord, MOST, SLOTS, Slot, SlotState, Totals, search};
 
 // At most eight entries, and as many octets as the two counts say.
@@ -119,7 +119,7 @@ fn channel_at(form: Form, from: &[u8], at: usize) -> Channel
 {
     let flag = flag_at(form, from, at + 3);
     Channel {
-        spacecraft_id: be_u16(from[at], from[at + 1]),
+        spacecraft_id: u16::from_be_bytes([from[at], from[at + 1]]),
         vc_id: from[at + 2],
         sequence_control_flag: BypassSequenceControlFlag::from(flag),
     }

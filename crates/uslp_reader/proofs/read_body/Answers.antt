@@ -22,7 +22,7 @@ returns-then-stored-computed c =
     let l = c.len_frame-length.ensures in
     let a = c.args in
     let two : 2 ≤ len_frame a.header = omega (arith, l, c.needed_len-needed.ensures) in
-    let stored = c.be_u16-stored.ensures ∙ last_two a.buf.now _ _ l two in
+    let stored = c.from_be_bytes-stored.ensures ∙ last_two a.buf.now _ _ l two in
     let computed = c.checksum-computed.ensures ∙ ap checksum_of (first_part a.buf.now _ _ (ap (λ (n : ℕ). n - 2) l)) in
     let t = tied a.header a.buf.now (λ i. omega (arith, c.type_inv.buf i)) two p.1 in
     sym
@@ -38,7 +38,7 @@ returns c =
     λ m. elim c.if-managed.branch [
       | then-managed+else-stored-computed w ↦
           let two : 2 ≤ len_frame a.header = omega (arith, l, c.needed_len-needed.ensures) in
-          let stored = w.be_u16-stored.ensures ∙ last_two a.buf.now _ _ l two in
+          let stored = w.from_be_bytes-stored.ensures ∙ last_two a.buf.now _ _ l two in
           let computed = w.checksum-computed.ensures ∙ ap checksum_of (first_part a.buf.now _ _ (ap (λ (n : ℕ). n - 2) l)) in
           (tied a.header a.buf.now (λ i. omega (arith, c.type_inv.buf i)) two p.1).1 (omega (arith, w.if-stored-computed, stored, computed))
       | else-managed w ↦ absurd (false≢true (sym w.if-managed.false ∙ m))

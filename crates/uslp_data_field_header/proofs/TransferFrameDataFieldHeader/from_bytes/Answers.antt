@@ -8,7 +8,7 @@ pub returns-then-applicable_to_fixed_len_tfdz : goal.returns-then-applicable_to_
 returns-then-applicable_to_fixed_len_tfdz c =
     let r = c.from-rule in
     let s = c.args.buf.now in
-    let p : word 1 2 s ≡ c.be_u16.result = omega (arith, c.be_u16.ensures) in
+    let p : word 1 2 s ≡ c.from_be_bytes.result = omega (arith, c.from_be_bytes.ensures) in
     c.with_protocol.ensures
     ∙ sym
     (reading_pointer s (omega arith) r.result _ (rule_at s ∙ sym r.ensures) (number_at s)
