@@ -2,7 +2,7 @@
 #![tactic(auto)]
 
 ghost use Rattle.std.specs.Prelude.{◌≡◌, ◌<◌};
-ghost use Rattle.uslp_record.specs.Slots.{state_holds, state_closed, find, slot_found, vacant, put, empty_record};
+ghost use Rattle.uslp_record.specs.Slots.{state_holds, state_closed, find, slot_found, FoundFirst, vacant, put, empty_record};
 ghost use Rattle.uslp_record.specs.Record.{keeping, missing_of, opening, closing, console_total, showing};
 ghost use Rattle.uslp_kinds.specs.Answers.{paper};
 
@@ -115,10 +115,9 @@ impl ChannelRecord {
         if self.search(channel).is_some() {
             return Recorded::refused(self, Refusal::AlreadyOpen);
         }
-        let at = first_closed(self);
-        if at >= SLOTS {
+        let Some(at) = self.first_closed() else {
             return Recorded::refused(self, Refusal::TableFull);
-        }
+        };
         let state = SlotState::Opened { channel, width };
         Recorded {
             answer: Ok(()),
@@ -150,16 +149,32 @@ impl ChannelRecord {
         Ok(self.slots[at].state)
     }
 
-    // The first slot that holds the channel. The index is counted, since the search is a loop that gives the slot number by break.
+    // The first slot that holds the channel.
     pub fn search(self, channel: Channel) -> Option<usize>
         ensures { result ≡ slot_found (find channel self.slots) }
+    {
+        self.first_that(|state| state.holds(channel))
+    }
+
+    // The first closed slot.
+    fn first_closed(self) -> Option<usize>
+        ensures { result ≡ slot_found (vacant self.slots) }
+    {
+        self.first_that(|state| state.is_closed())
+    }
+
+    // The first slot whose state passes the test. It counts its index, since a search is a loop that gives the slot number by break.
+    #[tactic(auto, unfolding(crate::specs::Slots::FoundFirst))]
+    fn first_that<F: Fn(SlotState) -> bool>(self, test: F) -> Option<usize>
+        requires { F.IsAlwaysCallable test }
+        ensures { FoundFirst (F.post test) self.slots result }
     {
         let mut i: usize = 0;
         let at = loop {
             if i >= SLOTS {
                 break None;
             }
-            if self.slots[i].state.holds(channel) {
+            if test(self.slots[i].state) {
                 break Some(i);
             }
             i += 1;
@@ -188,26 +203,6 @@ impl ChannelRecord {
     }
 }
 
-// The first closed slot, or how many there are.
-fn first_closed(channels: ChannelRecord) -> usize
-    ensures { result ≡ vacant channels.slots }
-{
-    let slots = channels.slots;
-    let mut i: usize = 0;
-    let at = loop {
-        if i >= SLOTS {
-            break i;
-        }
-        let slot = slots[i];
-        let state = slot.state;
-        if state_closed(state) {
-            break i;
-        }
-        i += 1;
-    };
-    at
-}
-
 // The record with another state in a slot.
 fn changed(channels: ChannelRecord, at: usize, state: SlotState) -> ChannelRecord
     requires { at < 8 }
@@ -230,22 +225,11 @@ impl SlotState {
             }
         }
     }
-}
 
-fn state_closed(state: SlotState) -> bool
-    ensures { result ≡ state_closed state }
-{
-    match state {
-        SlotState::Closed => true,
-        SlotState::Opened {
-            channel: _,
-            width: _,
-        } => false,
-        SlotState::Heard {
-            channel: _,
-            width: _,
-            totals: _,
-        } => false,
+    fn is_closed(self) -> bool
+        ensures { result ≡ state_closed self }
+    {
+        matches!(self, SlotState::Closed)
     }
 }
 
