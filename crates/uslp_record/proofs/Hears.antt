@@ -33,7 +33,8 @@ module _ (x : Slot) (k : Channel) (w n : ℕ) (narrow : w ≤ 7) (fits : n < 256
     unfolding slot_judging
     slot_full h = simp (le-ltb 7 w narrow, lt-leb (256 ^ w) n fits, eq-eqb w (width_at x.state) same, h)
 
-    slot_done : overfull (totals_at x.state n) ≡ false → slot_judging x k w n ≡ done (arrival_at x.state n, slot_of (Heard k w (totals_at x.state n)))
+    slot_done : overfull (totals_at x.state n) ≡ false
+        → slot_judging x k w n ≡ done (arrival_at x.state n, slot_of (Heard k w (totals_at x.state n)))
     unfolding slot_judging
     slot_done h = simp (le-ltb 7 w narrow, lt-leb (256 ^ w) n fits, eq-eqb w (width_at x.state) same, h)
 

@@ -53,7 +53,7 @@ impl ChannelRecord {
     #[tactic(auto, unfolding(crate::specs::Slots::FoundFirst))]
     fn first_that<F: Fn(SlotState) -> bool>(self, test: F) -> Option<usize>
         requires { F.IsAlwaysCallable test }
-        ensures { FoundFirst (F.post test) self.slots result }
+        ensures { FoundFirst (F.post test) self result }
     {
         let mut i: usize = 0;
         loop {
