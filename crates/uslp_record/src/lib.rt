@@ -1,14 +1,15 @@
 // The channel record on numbers: eight slots by value, and what each call makes of them.
 #![tactic(auto)]
 
-ghost use Rattle.std.specs.Prelude.{◌≡◌, ◌<◌};
-ghost use Rattle.uslp_record.specs.Slots.{same_channel, state_holds, state_closed, find, vacant, put, empty_record};
-ghost use Rattle.uslp_record.specs.Record.{keeping, missing_of, opening, closing, console_total, showing};
+ghost use Rattle.std.specs.Prelude.{◌≡◌};
+ghost use Rattle.uslp_record.specs.Slots.{empty_record};
+ghost use Rattle.uslp_record.specs.Record.{keeping, opening, closing, console_total, showing};
 ghost use Rattle.uslp_kinds.specs.Answers.{paper};
 
 use uslp_kinds::{BypassSequenceControlFlag, MAX_COUNT_LEN, MAX_VC_ID, Refusal};
 
 mod counting;
+mod searching;
 
 // How many channels a record holds.
 pub const SLOTS: usize = 8;
@@ -65,6 +66,18 @@ pub struct Recorded<T> {
     pub next: ChannelRecord,
 }
 
+impl<T> Recorded<T> {
+    // The call was refused, and leaves the record.
+    pub fn refused(next: ChannelRecord, refusal: Refusal) -> Recorded<T>
+        ensures { result ≡ record { answer = Err refusal; next = next } }
+    {
+        Recorded {
+            answer: Err(refusal),
+            next,
+        }
+    }
+}
+
 // What hearing a frame finds: NEW with how many frames are missing before it, or nothing to hand on.
 #[derive(Clone, Copy, Debug, PartialEq, Eq)]
 pub enum Arrival {
@@ -78,211 +91,68 @@ impl ChannelRecord {
     pub fn new() -> ChannelRecord
         ensures { result ≡ empty_record }
     {
-        let slot = Slot {
-            state: SlotState::Closed,
-        };
+        let state = SlotState::Closed;
         ChannelRecord {
-            slots: [slot; SLOTS],
+            slots: [Slot { state }; SLOTS],
         }
     }
 
     // Takes the first closed slot. Refuses BAD_FIELD, ALREADY_OPEN, TABLE_FULL.
+    #[tactic(auto, unfolding(crate::specs::Record::opening))]
     pub fn open_channel(self, channel: Channel, width: u8) -> Recorded<()>
         ensures { keeping (paper result.answer) result.next ≡ opening self channel width }
     {
-        if channel.vc_id > MAX_VC_ID {
-            return refused(Refusal::BadField, self);
+        if channel.vc_id > MAX_VC_ID || width == 0 || width > MAX_COUNT_LEN {
+            return Recorded::refused(self, Refusal::BadField);
         }
-        if width == 0 {
-            return refused(Refusal::BadField, self);
+        if self.search(channel).is_some() {
+            return Recorded::refused(self, Refusal::AlreadyOpen);
         }
-        if width > MAX_COUNT_LEN {
-            return refused(Refusal::BadField, self);
-        }
-        if search(self, channel) < SLOTS {
-            return refused(Refusal::AlreadyOpen, self);
-        }
-        let at = first_closed(self);
-        if at >= SLOTS {
-            return refused(Refusal::TableFull, self);
-        }
+        let Some(at) = self.first_closed() else {
+            return Recorded::refused(self, Refusal::TableFull);
+        };
         let state = SlotState::Opened { channel, width };
         Recorded {
             answer: Ok(()),
-            next: changed(self, at, state),
+            next: self.with_state(at, state),
         }
     }
 
     // Refuses NOT_OPEN.
+    #[tactic(auto, unfolding(crate::specs::Record::closing))]
     pub fn close_channel(self, channel: Channel) -> Recorded<()>
         ensures { keeping (paper result.answer) result.next ≡ closing self channel }
     {
-        let at = search(self, channel);
-        if at >= SLOTS {
-            return refused(Refusal::NotOpen, self);
-        }
-        let state = SlotState::Closed;
+        let Some(at) = self.search(channel) else {
+            return Recorded::refused(self, Refusal::NotOpen);
+        };
         Recorded {
             answer: Ok(()),
-            next: changed(self, at, state),
+            next: self.with_state(at, SlotState::Closed),
         }
     }
 
     // Width and totals of an open channel. Refuses NOT_OPEN.
+    #[tactic(auto, unfolding(crate::specs::Record::showing))]
     pub fn channel_state(self, channel: Channel) -> Result<SlotState, Refusal>
         ensures { paper result ≡ showing self channel }
     {
-        let at = search(self, channel);
-        if at >= SLOTS {
-            return Err(Refusal::NotOpen);
-        }
-        let slots = self.slots;
-        let slot = slots[at];
-        let state = slot.state;
-        Ok(state)
+        let at = self.search(channel).ok_or(Refusal::NotOpen)?;
+        Ok(self.slots[at].state)
     }
 
     // The sum of missing over open channels. Refuses TOTAL_FULL.
     pub fn total_missing(self) -> Result<u64, Refusal>
         ensures { paper result ≡ console_total self }
     {
-        let slots = self.slots;
         let mut sum: u64 = 0;
-        let mut i: usize = 0;
-        while i < SLOTS {
-            let slot = slots[i];
-            let state = slot.state;
-            let missing = missing_of(state);
+        for slot in self.slots {
+            let missing = slot.state.missing();
             if missing > MOST {
                 return Err(Refusal::TotalFull);
             }
             sum += missing;
-            i += 1;
         }
         Ok(sum)
-    }
-}
-
-pub fn same_channel(a: Channel, b: Channel) -> bool
-    ensures { result ≡ same_channel a b }
-{
-    if a.spacecraft_id != b.spacecraft_id {
-        return false;
-    }
-    if a.vc_id != b.vc_id {
-        return false;
-    }
-    let flag = a.sequence_control_flag;
-    let other = b.sequence_control_flag;
-    u8::from(flag) == u8::from(other)
-}
-
-// The first slot that holds the channel, or how many there are.
-pub fn search(channels: ChannelRecord, channel: Channel) -> usize
-    ensures { result ≡ find channel channels.slots }
-{
-    let slots = channels.slots;
-    let mut i: usize = 0;
-    let at = loop {
-        if i >= SLOTS {
-            break i;
-        }
-        let slot = slots[i];
-        let state = slot.state;
-        if state_holds(state, channel) {
-            break i;
-        }
-        i += 1;
-    };
-    at
-}
-
-// The first closed slot, or how many there are.
-fn first_closed(channels: ChannelRecord) -> usize
-    ensures { result ≡ vacant channels.slots }
-{
-    let slots = channels.slots;
-    let mut i: usize = 0;
-    let at = loop {
-        if i >= SLOTS {
-            break i;
-        }
-        let slot = slots[i];
-        let state = slot.state;
-        if state_closed(state) {
-            break i;
-        }
-        i += 1;
-    };
-    at
-}
-
-// The record with another state in a slot.
-fn changed(channels: ChannelRecord, at: usize, state: SlotState) -> ChannelRecord
-    requires { at < 8 }
-    ensures { result ≡ put channels at state }
-{
-    let mut next = channels;
-    next.slots[at] = Slot { state };
-    next
-}
-
-fn state_holds(state: SlotState, channel: Channel) -> bool
-    ensures { result ≡ state_holds channel state }
-{
-    match state {
-        SlotState::Closed => false,
-        SlotState::Opened {
-            channel: own,
-            width: _,
-        } => same_channel(own, channel),
-        SlotState::Heard {
-            channel: own,
-            width: _,
-            totals: _,
-        } => same_channel(own, channel),
-    }
-}
-
-fn state_closed(state: SlotState) -> bool
-    ensures { result ≡ state_closed state }
-{
-    match state {
-        SlotState::Closed => true,
-        SlotState::Opened {
-            channel: _,
-            width: _,
-        } => false,
-        SlotState::Heard {
-            channel: _,
-            width: _,
-            totals: _,
-        } => false,
-    }
-}
-
-fn missing_of(state: SlotState) -> u64
-    ensures { result ≡ missing_of state }
-{
-    match state {
-        SlotState::Closed => 0,
-        SlotState::Opened {
-            channel: _,
-            width: _,
-        } => 0,
-        SlotState::Heard {
-            channel: _,
-            width: _,
-            totals,
-        } => totals.missing,
-    }
-}
-
-fn refused(refusal: Refusal, channels: ChannelRecord) -> Recorded<()>
-    ensures { (result.answer ≡ Err refusal) × (result.next ≡ channels) }
-{
-    Recorded {
-        answer: Err(refusal),
-        next: channels,
     }
 }
