@@ -13,7 +13,7 @@ ghost use Rattle.uslp_kinds.specs.Answers.{paper};
 use uslp_hearing::channel_of;
 use uslp_kinds::{ManagedParameters, Refusal};
 use uslp_primary_header::PrimaryHeader;
-use uslp_reader::{TransferFrame};
+use uslp_reader::TransferFrame;
 use uslp_record::{Arrival, ChannelRecord, SLOTS, Slot, search};
 
 // How many frames were NEW, the sum of their gaps, how many were REPEAT and LATE, and how many got 13, 14 and 17.

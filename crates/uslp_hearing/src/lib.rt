@@ -10,7 +10,7 @@ ghost use Rattle.uslp_kinds.specs.Answers.{paper};
 
 use uslp_kinds::{ManagedParameters, Refusal};
 use uslp_primary_header::PrimaryHeader;
-use uslp_reader::{TransferFrame};
+use uslp_reader::TransferFrame;
 use uslp_record::{Arrival, Channel, ChannelRecord, Recorded};
 
 // What hearing a frame finds: NEW, with the frame and how many are missing before it, or nothing to hand on.
@@ -22,7 +22,11 @@ pub enum FrameArrival {
 }
 
 // Refuses what reading refuses, then NOT_OPEN, OTHER_WIDTH, TOTAL_FULL.
-pub fn hear(channels: ChannelRecord, buf: &[u8], managed: ManagedParameters) -> Recorded<FrameArrival>
+pub fn hear(
+    channels: ChannelRecord,
+    buf: &[u8],
+    managed: ManagedParameters,
+) -> Recorded<FrameArrival>
     ensures { keeping (paper result.answer) result.next ≡ frame_hearing channels buf.now managed }
 {
     match TransferFrame::from_bytes(buf, managed) {
@@ -80,7 +84,10 @@ pub fn channel_of(header: PrimaryHeader) -> Channel
 }
 
 // An answer to a count, with the frame that it is of.
-fn with_frame(answer: Result<Arrival, Refusal>, frame: TransferFrame) -> Result<FrameArrival, Refusal>
+fn with_frame(
+    answer: Result<Arrival, Refusal>,
+    frame: TransferFrame,
+) -> Result<FrameArrival, Refusal>
     ensures { paper result ≡ and_then (paper answer) (λ a. done (frame_arrival frame a)) }
 {
     match answer {

@@ -8,7 +8,7 @@ ghost use Rattle.uslp_intake.specs.Intake.{paper_intake, taken_by, held_by, inta
 
 use uslp_kinds::{MAX_FRAME_LEN, ManagedParameters, Refusal};
 use uslp_octets::copy_octets;
-use uslp_reader::{TransferFrame};
+use uslp_reader::TransferFrame;
 
 // What a call did with its block: how many octets it took, and how many the holding buffer now holds.
 #[derive(Clone, Copy)]

@@ -5,8 +5,7 @@ mod parts;
 pub mod reader;
 pub mod setters;
 
-pub use reader::{
-    FrameFound, TransferFrameReader, frame_data, frame_data_len};
+pub use reader::{FrameFound, TransferFrameReader, frame_data, frame_data_len};
 pub use setters::{
     Decided, decide_frame_len, decide_vc_frame_count, set_frame_len, set_vc_frame_count, settle,
 };

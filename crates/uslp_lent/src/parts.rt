@@ -6,9 +6,11 @@ ghost use Rattle.uslp_reader.specs.Reader.{frame_reading, contents_read, content
 ghost use Rattle.uslp_lent.specs.Accessors.{of_frame};
 ghost use Rattle.uslp_kinds.specs.Answers.{paper};
 
-use super::reader::{FrameFound};
-use uslp_kinds::{ManagedParameters};
-use uslp_reader::{TransferFrame};
+use super::reader::FrameFound;
+use uslp_data_field_header::TransferFrameDataFieldHeader;
+use uslp_kinds::{ManagedParameters, Refusal, SourceOrDestField};
+use uslp_primary_header::PrimaryHeader;
+use uslp_reader::TransferFrame;
 
 pub(crate) fn find(buf: &[u8], managed: ManagedParameters) -> FrameFound
     ensures { paper result.answer ≡ frame_reading buf.now managed }
@@ -60,7 +62,10 @@ pub(crate) fn primary_header(raw: &[u8], found: FrameFound) -> Result<PrimaryHea
     }
 }
 
-pub(crate) fn data_field_header(raw: &[u8], found: FrameFound) -> Result<TransferFrameDataFieldHeader, Refusal>
+pub(crate) fn data_field_header(
+    raw: &[u8],
+    found: FrameFound,
+) -> Result<TransferFrameDataFieldHeader, Refusal>
     ensures { paper result ≡ of_frame (λ x. x.data_field_header) (paper found.answer) }
 {
     let answer = found.answer;
@@ -70,7 +75,10 @@ pub(crate) fn data_field_header(raw: &[u8], found: FrameFound) -> Result<Transfe
     }
 }
 
-pub(crate) fn operational_control_field(raw: &[u8], found: FrameFound) -> Result<Option<u32>, Refusal>
+pub(crate) fn operational_control_field(
+    raw: &[u8],
+    found: FrameFound,
+) -> Result<Option<u32>, Refusal>
     ensures { paper result ≡ of_frame (λ x. x.operational_control_field) (paper found.answer) }
 {
     let answer = found.answer;
@@ -80,22 +88,22 @@ pub(crate) fn operational_control_field(raw: &[u8], found: FrameFound) -> Result
     }
 }
 
-pub(crate) fn vc_id(raw: &[u8], found: FrameFound) -> Result<u16, Refusal>
+pub(crate) fn vc_id(raw: &[u8], found: FrameFound) -> Result<u8, Refusal>
     ensures { paper result ≡ of_frame (λ x. x.primary_header.vc_id) (paper found.answer) }
 {
     let answer = found.answer;
     match answer {
-        Ok(frame) => Ok(frame.primary_header.vc_id as u16),
+        Ok(frame) => Ok(frame.primary_header.vc_id),
         Err(refusal) => Err(refusal),
     }
 }
 
-pub(crate) fn map_id(raw: &[u8], found: FrameFound) -> Result<u16, Refusal>
+pub(crate) fn map_id(raw: &[u8], found: FrameFound) -> Result<u8, Refusal>
     ensures { paper result ≡ of_frame (λ x. x.primary_header.map_id) (paper found.answer) }
 {
     let answer = found.answer;
     match answer {
-        Ok(frame) => Ok(frame.primary_header.map_id as u16),
+        Ok(frame) => Ok(frame.primary_header.map_id),
         Err(refusal) => Err(refusal),
     }
 }
@@ -110,7 +118,10 @@ pub(crate) fn spacecraft_id(raw: &[u8], found: FrameFound) -> Result<u16, Refusa
     }
 }
 
-pub(crate) fn source_or_dest_field(raw: &[u8], found: FrameFound) -> Result<SourceOrDestField, Refusal>
+pub(crate) fn source_or_dest_field(
+    raw: &[u8],
+    found: FrameFound,
+) -> Result<SourceOrDestField, Refusal>
     ensures { paper result ≡ of_frame (λ x. x.primary_header.source_or_dest_field) (paper found.answer) }
 {
     let answer = found.answer;

@@ -7,8 +7,10 @@ ghost use Rattle.uslp_lent.specs.Accessors.{of_frame};
 ghost use Rattle.uslp_kinds.specs.Answers.{paper};
 
 use super::parts;
-use uslp_kinds::{
-    ManagedParameters, Refusal, SourceOrDestField};
+use uslp_data_field_header::TransferFrameDataFieldHeader;
+use uslp_kinds::{ManagedParameters, Refusal, SourceOrDestField};
+use uslp_primary_header::PrimaryHeader;
+use uslp_reader::TransferFrame;
 
 // The frame that was read, or why it was refused: plain, so that it can stand beside the octets.
 #[derive(Clone, Copy)]
@@ -82,13 +84,13 @@ impl<'a> TransferFrameReader<'a> {
         parts::operational_control_field(self.raw, self.found)
     }
 
-    pub fn vc_id(self) -> Result<u16, Refusal>
+    pub fn vc_id(self) -> Result<u8, Refusal>
         ensures { paper result ≡ of_frame (λ x. x.primary_header.vc_id) (paper self.entry.found.answer) }
     {
         parts::vc_id(self.raw, self.found)
     }
 
-    pub fn map_id(self) -> Result<u16, Refusal>
+    pub fn map_id(self) -> Result<u8, Refusal>
         ensures { paper result ≡ of_frame (λ x. x.primary_header.map_id) (paper self.entry.found.answer) }
     {
         parts::map_id(self.raw, self.found)

@@ -4,7 +4,8 @@ ghost use Rattle.uslp_primary_header.specs.Header.{count_setting, length_setting
 ghost use Rattle.uslp_lent.specs.Setting.{header_left, header_off};
 ghost use Rattle.uslp_kinds.specs.Answers.{paper};
 
-use uslp_primary_header::{PrimaryHeader};
+use uslp_kinds::Refusal;
+use uslp_primary_header::PrimaryHeader;
 
 // The header to leave behind the reference, and the answer.
 #[derive(Clone, Copy)]
@@ -54,7 +55,11 @@ pub fn set_frame_len(header: &mut PrimaryHeader, frame_len: usize) -> Result<(),
 }
 
 // Refuses BAD_FIELD for the width, then BAD_COUNT.
-pub fn set_vc_frame_count(header: &mut PrimaryHeader, count_len: u8, count: u64) -> Result<(), Refusal>
+pub fn set_vc_frame_count(
+    header: &mut PrimaryHeader,
+    count_len: u8,
+    count: u64,
+) -> Result<(), Refusal>
     ensures { (header.new ≡ header_left header.old (count_setting header.old count_len count))
         × (paper result ≡ header_off (count_setting header.old count_len count)) }
 {

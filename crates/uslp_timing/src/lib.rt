@@ -11,9 +11,11 @@ ghost use Rattle.uslp_timing.specs.Timing.{pointer_number, ocf_number, numbers_o
 use uslp_checksum::checksum;
 use uslp_data_field_header::TransferFrameDataFieldHeader;
 use uslp_kinds::{
-    BypassSequenceControlFlag, ConstructionRule, ProtocolControlCommandFlag, SourceOrDestField, UslpProtocolId, WITH_FECF};
+    BypassSequenceControlFlag, ConstructionRule, ProtocolControlCommandFlag, SourceOrDestField,
+    UslpProtocolId, WITH_FECF,
+};
 use uslp_primary_header::PrimaryHeader;
-use uslp_reader::{TransferFrame};
+use uslp_reader::TransferFrame;
 use uslp_writer::TransferFrameCreator;
 
 pub fn uslp_timing_checksum(message: &[u8]) -> u16

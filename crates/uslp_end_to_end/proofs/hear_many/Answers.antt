@@ -17,7 +17,7 @@ use Rattle.uslp_end_to_end.specs.Many.{plus, tally_of}
 use Rattle.uslp_end_to_end.specs.declared.Tally.{Tally}
 use Rattle.uslp_end_to_end.proofs.Walk.{Stepped, stepped_none, stepped_done, stepped_refused, goes_refused, goes_all, heard_small, heard_more}
 use Rattle.uslp_end_to_end.proofs.hear_many.Goals as goal
-use Rattle.uslp_end_to_end.proofs.hear_many.Goals.{then-at-lt-SLOTS+in-Done-judge_in, then-at-lt-SLOTS+in-Refused-judge_in, else-at-lt-SLOTS}
+use Rattle.uslp_end_to_end.proofs.hear_many.Goals.{then-at-lt-SLOTS+in-Ok-judge_in, then-at-lt-SLOTS+in-Err-judge_in, else-at-lt-SLOTS}
 
 pub arrived-tally-requires : goal.arrived-tally-requires
 arrived-tally-requires c = (
