@@ -1,5 +1,5 @@
 -- What hearing a frame says, by what hearing its count and reading its octets said; and the way back from paper.
-use mathlib.Core.Path.{◌≡◌, refl, ap, sym}
+use mathlib.Core.Path.{◌≡◌, ap, sym}
 use mathlib.Core.List.{List}
 use Prim.Native.Nat.{ℕ}
 use Rattle.uslp_kinds.specs.Outcome.{Outcome, done, refused, and_then}
@@ -24,4 +24,3 @@ heard_with x r (refused k vs) e = let d = keeping_one e in cc
 pub frame_heard : (r : ChannelRecord) (s : List ℕ) (managed : ManagedParameters) {x : TransferFrame} → frame_reading s managed ≡ done x
     → hearing_of_frame r x ≡ frame_hearing r s managed
 frame_heard r s managed e = ap (λ (o : Outcome TransferFrame). applied r (and_then o (judged_by channel_of r))) (sym e)
-

@@ -1,7 +1,6 @@
 -- Hearing a frame (docs/RULES.md, section 6.3): what it answers, what it hands on, and the record that it leaves, in its order.
 use Rattle.std.specs.Prelude.{ℕ, List, []}
 use Rattle.uslp_kinds.specs.Outcome.{Outcome, done, refused, and_then}
-use Rattle.uslp_kinds.specs.Answers.{refusal}
 use Rattle.uslp_kinds.specs.declared.ManagedParameters.{ManagedParameters}
 use Rattle.uslp_primary_header.specs.declared.PrimaryHeader.{PrimaryHeader}
 use Rattle.uslp_reader.specs.Reader.{frame_reading, contents_in, contents_at}

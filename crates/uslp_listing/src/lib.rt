@@ -8,7 +8,7 @@ ghost use Rattle.uslp_listing.specs.Listing.{heading, line, summary, lines_of, r
 ghost use Rattle.uslp_kinds.specs.Answers.{paper};
 
 use uslp_kinds::{NO_FECF, Refusal};
-use uslp_reader::{TransferFrame};
+use uslp_reader::TransferFrame;
 use uslp_text::{put_decimal, put_text};
 
 // The most octets that a recording may have.

@@ -2,6 +2,7 @@
 use Rattle.std.proofs.Common.{arith, ◌≡◌, ap, sym, ◌∙◌, ◌+◌, ◌-◌, ◌≤◌, ℕ, List, refl, length, take}
 use Rattle.uslp_kinds.specs.declared.ManagedParameters.{ManagedParameters}
 use Rattle.uslp_reader.specs.Reader.{frame_reading}
+use Rattle.uslp_reader.specs.declared.TransferFrame.{TransferFrame}
 use Rattle.uslp_reader.proofs.Parts.{first_part}
 use Rattle.uslp_intake.proofs.Steps.{taken_none, taken_decided, taken_stops, taken_waits, taken_more, taken_room, taken_fewer}
 use Rattle.uslp_intake.proofs.take_wanted.Goals as goal
