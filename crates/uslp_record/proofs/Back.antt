@@ -1,12 +1,10 @@
 -- An answer of a call on the record has a way back from paper, and what a call leaves is one answer with one record.
-use Rattle.std.proofs.Common.{◌≡◌, ℕ, List, sym, refl, ap}
+use Rattle.std.proofs.Common.{◌≡◌, ℕ, List, sym}
 use Rattle.uslp_kinds.specs.Outcome.{Outcome, done, refused}
 use Rattle.uslp_kinds.proofs.Outcomes.{not_done}
 use Rattle.uslp_record.specs.Slots.{Change}
 use Rattle.uslp_record.specs.Record.{keeping, applied}
 use Rattle.uslp_record.specs.declared.ChannelRecord.{ChannelRecord}
-use Rattle.uslp_record.specs.declared.Arrival.{Arrival}
-use Rattle.uslp_record.specs.declared.Slot.{Slot}
 
 pub keeping_one : {A : Type 0} {o p : Outcome A} {r q : ChannelRecord} → keeping o r ≡ keeping p q → (o ≡ p) × (r ≡ q)
 keeping_one e = (cc, cc)

@@ -2,7 +2,6 @@
 use Rattle.std.specs.Prelude.{ℕ, ◌+◌, ◌-◌, ◌/◌, ◌%◌, ◌^◌, Bool, cond, not, ◌||◌, List, [], ◌∷◌, ◌++◌, ◌==◌, nat_le, nat_lt}
 use Rattle.uslp_kinds.specs.Outcome.{Outcome, done, refused, first_of}
 use Rattle.uslp_kinds.specs.Kinds.{count_bad}
-use Rattle.uslp_kinds.specs.Answers.{refusal}
 use Rattle.uslp_record.specs.Slots.{find, slot_of, state_at, Change}
 use Rattle.uslp_record.specs.Record.{Kept, applied, most}
 use Rattle.uslp_record.specs.declared.Channel.{Channel}

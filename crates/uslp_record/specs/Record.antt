@@ -1,7 +1,6 @@
 -- Opening, closing and asking (docs/RULES.md, sections 6.2 and 6.4): what each call answers and the record that it leaves, in its order.
 use Rattle.std.specs.Prelude.{ℕ, ◌+◌, ◌-◌, ◌^◌, Bool, false, ◌||◌, List, [], ◌∷◌, ◌==◌, nat_le, nat_lt}
 use Rattle.uslp_kinds.specs.Outcome.{Outcome, done, refused, first_of}
-use Rattle.uslp_kinds.specs.Answers.{refusal}
 use Rattle.uslp_record.specs.Slots.{find, vacant, state_at, Change, changed}
 use Rattle.uslp_record.specs.declared.Channel.{Channel}
 use Rattle.uslp_record.specs.declared.SlotState.{SlotState}

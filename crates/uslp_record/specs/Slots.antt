@@ -1,5 +1,5 @@
 -- Eight slots (docs/RULES.md, section 6.1): which of them holds a channel, which is closed, and the record with a slot replaced.
-use Rattle.std.specs.Prelude.{ℕ, suc, Bool, true, false, cond, ◌&&◌, List, [], ◌∷◌, replicate, ◌==◌, slice_index_or, slice_set}
+use Rattle.std.specs.Prelude.{ℕ, suc, Bool, true, false, cond, ◌&&◌, List, [], ◌∷◌, Option, Some, None, replicate, ◌==◌, nat_lt, slice_index_or, slice_set}
 use Rattle.uslp_kinds.specs.Kinds.{bypass_number}
 use Rattle.uslp_record.specs.declared.Channel.{Channel}
 use Rattle.uslp_record.specs.declared.SlotState.{SlotState}
@@ -33,6 +33,10 @@ is_closed x = state_closed x.state
 unfoldable pub find : Channel → List Slot → ℕ
 find k [] = 0
 find k (x ∷ l) = cond (holds k x) 0 (suc (find k l))
+
+-- the slot, or none where there is no such
+abbrev pub slot_found : ℕ → Option ℕ
+slot_found k = cond (nat_lt k 8) (Some k) None
 
 -- the first closed slot, or how many there are
 unfoldable pub vacant : List Slot → ℕ

@@ -4,27 +4,25 @@ ghost use Rattle.uslp_record.specs.Record.{keeping};
 ghost use Rattle.uslp_record.specs.Judging.{ahead, arrival_of, totals_after, first_totals, overfull, arrival_at, totals_at, width_at, count_hearing, slot_judging};
 ghost use Rattle.uslp_kinds.specs.Answers.{paper};
 
-use crate::{
-    Arrival, Channel, ChannelRecord, MOST, Recorded, SLOTS, Slot, SlotState, Totals, search,
-};
+use crate::{Arrival, Channel, ChannelRecord, MOST, Recorded, Slot, SlotState, Totals};
 use uslp_kinds::{MAX_COUNT_LEN, Refusal};
 
 impl ChannelRecord {
     // Hears a frame of this channel, width and count. Refuses BAD_FIELD for a width that no frame has, BAD_COUNT for a count
     // that does not fit it, NOT_OPEN, OTHER_WIDTH, TOTAL_FULL.
+    #[tactic(auto, unfolding(crate::specs::Judging::judging, crate::specs::Judging::slot_judging))]
     pub fn hear_count(self, channel: Channel, width: u8, count: u64) -> Recorded<Arrival>
         ensures { keeping (paper result.answer) result.next ≡ count_hearing self channel width count }
     {
         if width > MAX_COUNT_LEN {
-            return unheard(self, Refusal::BadField);
+            return Recorded::refused(self, Refusal::BadField);
         }
         if count >= counts(width) {
-            return unheard(self, Refusal::BadCount { count, width });
+            return Recorded::refused(self, Refusal::BadCount { count, width });
         }
-        let at = search(self, channel);
-        if at >= SLOTS {
-            return unheard(self, Refusal::NotOpen);
-        }
+        let Some(at) = self.search(channel) else {
+            return Recorded::refused(self, Refusal::NotOpen);
+        };
         let mut next = self;
         let found = next.slots[at];
         match found.judge_count(channel, width, count) {
@@ -35,17 +33,8 @@ impl ChannelRecord {
                     next,
                 }
             }
-            Err(refusal) => unheard(self, refusal),
+            Err(refusal) => Recorded::refused(self, refusal),
         }
-    }
-}
-
-fn unheard(channels: ChannelRecord, refusal: Refusal) -> Recorded<Arrival>
-    ensures { result ≡ record { answer = Err refusal; next = channels } }
-{
-    Recorded {
-        answer: Err(refusal),
-        next: channels,
     }
 }
 

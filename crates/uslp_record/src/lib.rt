@@ -2,7 +2,7 @@
 #![tactic(auto)]
 
 ghost use Rattle.std.specs.Prelude.{◌≡◌, ◌<◌};
-ghost use Rattle.uslp_record.specs.Slots.{same_channel, state_holds, state_closed, find, vacant, put, empty_record};
+ghost use Rattle.uslp_record.specs.Slots.{state_holds, state_closed, find, slot_found, vacant, put, empty_record};
 ghost use Rattle.uslp_record.specs.Record.{keeping, missing_of, opening, closing, console_total, showing};
 ghost use Rattle.uslp_kinds.specs.Answers.{paper};
 
@@ -65,6 +65,18 @@ pub struct Recorded<T> {
     pub next: ChannelRecord,
 }
 
+impl<T> Recorded<T> {
+    // The call was refused, and leaves the record.
+    pub fn refused(next: ChannelRecord, refusal: Refusal) -> Recorded<T>
+        ensures { result ≡ record { answer = Err refusal; next = next } }
+    {
+        Recorded {
+            answer: Err(refusal),
+            next,
+        }
+    }
+}
+
 // What hearing a frame finds: NEW with how many frames are missing before it, or nothing to hand on.
 #[derive(Clone, Copy, Debug, PartialEq, Eq)]
 pub enum Arrival {
@@ -87,24 +99,25 @@ impl ChannelRecord {
     }
 
     // Takes the first closed slot. Refuses BAD_FIELD, ALREADY_OPEN, TABLE_FULL.
+    #[tactic(auto, unfolding(crate::specs::Record::opening))]
     pub fn open_channel(self, channel: Channel, width: u8) -> Recorded<()>
         ensures { keeping (paper result.answer) result.next ≡ opening self channel width }
     {
         if channel.vc_id > MAX_VC_ID {
-            return refused(Refusal::BadField, self);
+            return Recorded::refused(self, Refusal::BadField);
         }
         if width == 0 {
-            return refused(Refusal::BadField, self);
+            return Recorded::refused(self, Refusal::BadField);
         }
         if width > MAX_COUNT_LEN {
-            return refused(Refusal::BadField, self);
+            return Recorded::refused(self, Refusal::BadField);
         }
-        if search(self, channel) < SLOTS {
-            return refused(Refusal::AlreadyOpen, self);
+        if self.search(channel).is_some() {
+            return Recorded::refused(self, Refusal::AlreadyOpen);
         }
         let at = first_closed(self);
         if at >= SLOTS {
-            return refused(Refusal::TableFull, self);
+            return Recorded::refused(self, Refusal::TableFull);
         }
         let state = SlotState::Opened { channel, width };
         Recorded {
@@ -114,13 +127,13 @@ impl ChannelRecord {
     }
 
     // Refuses NOT_OPEN.
+    #[tactic(auto, unfolding(crate::specs::Record::closing))]
     pub fn close_channel(self, channel: Channel) -> Recorded<()>
         ensures { keeping (paper result.answer) result.next ≡ closing self channel }
     {
-        let at = search(self, channel);
-        if at >= SLOTS {
-            return refused(Refusal::NotOpen, self);
-        }
+        let Some(at) = self.search(channel) else {
+            return Recorded::refused(self, Refusal::NotOpen);
+        };
         let state = SlotState::Closed;
         Recorded {
             answer: Ok(()),
@@ -129,17 +142,29 @@ impl ChannelRecord {
     }
 
     // Width and totals of an open channel. Refuses NOT_OPEN.
+    #[tactic(auto, unfolding(crate::specs::Record::showing))]
     pub fn channel_state(self, channel: Channel) -> Result<SlotState, Refusal>
         ensures { paper result ≡ showing self channel }
     {
-        let at = search(self, channel);
-        if at >= SLOTS {
-            return Err(Refusal::NotOpen);
-        }
-        let slots = self.slots;
-        let slot = slots[at];
-        let state = slot.state;
-        Ok(state)
+        let at = self.search(channel).ok_or(Refusal::NotOpen)?;
+        Ok(self.slots[at].state)
+    }
+
+    // The first slot that holds the channel. The index is counted, since the search is a loop that gives the slot number by break.
+    pub fn search(self, channel: Channel) -> Option<usize>
+        ensures { result ≡ slot_found (find channel self.slots) }
+    {
+        let mut i: usize = 0;
+        let at = loop {
+            if i >= SLOTS {
+                break None;
+            }
+            if self.slots[i].state.holds(channel) {
+                break Some(i);
+            }
+            i += 1;
+        };
+        at
     }
 
     // The sum of missing over open channels. Refuses TOTAL_FULL.
@@ -161,40 +186,6 @@ impl ChannelRecord {
         }
         Ok(sum)
     }
-}
-
-pub fn same_channel(a: Channel, b: Channel) -> bool
-    ensures { result ≡ same_channel a b }
-{
-    if a.spacecraft_id != b.spacecraft_id {
-        return false;
-    }
-    if a.vc_id != b.vc_id {
-        return false;
-    }
-    let flag = a.sequence_control_flag;
-    let other = b.sequence_control_flag;
-    u8::from(flag) == u8::from(other)
-}
-
-// The first slot that holds the channel, or how many there are.
-pub fn search(channels: ChannelRecord, channel: Channel) -> usize
-    ensures { result ≡ find channel channels.slots }
-{
-    let slots = channels.slots;
-    let mut i: usize = 0;
-    let at = loop {
-        if i >= SLOTS {
-            break i;
-        }
-        let slot = slots[i];
-        let state = slot.state;
-        if state_holds(state, channel) {
-            break i;
-        }
-        i += 1;
-    };
-    at
 }
 
 // The first closed slot, or how many there are.
@@ -227,20 +218,17 @@ fn changed(channels: ChannelRecord, at: usize, state: SlotState) -> ChannelRecor
     next
 }
 
-fn state_holds(state: SlotState, channel: Channel) -> bool
-    ensures { result ≡ state_holds channel state }
-{
-    match state {
-        SlotState::Closed => false,
-        SlotState::Opened {
-            channel: own,
-            width: _,
-        } => same_channel(own, channel),
-        SlotState::Heard {
-            channel: own,
-            width: _,
-            totals: _,
-        } => same_channel(own, channel),
+impl SlotState {
+    #[tactic(auto, using(crate::proofs::Equality::equal_is))]
+    fn holds(self, channel: Channel) -> bool
+        ensures { result ≡ state_holds channel self }
+    {
+        match self {
+            SlotState::Closed => false,
+            SlotState::Opened { channel: own, .. } | SlotState::Heard { channel: own, .. } => {
+                own == channel
+            }
+        }
     }
 }
 
@@ -275,14 +263,5 @@ fn missing_of(state: SlotState) -> u64
             width: _,
             totals,
         } => totals.missing,
-    }
-}
-
-fn refused(refusal: Refusal, channels: ChannelRecord) -> Recorded<()>
-    ensures { (result.answer ≡ Err refusal) × (result.next ≡ channels) }
-{
-    Recorded {
-        answer: Err(refusal),
-        next: channels,
     }
 }
