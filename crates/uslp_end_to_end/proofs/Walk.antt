@@ -198,14 +198,6 @@ pub record Heard (managed : ManagedParameters) (s : List ℕ) (r₀ r : ChannelR
   pub few : total t ≤ place
   pub sum : t.missing ≤ up_to_in r.slots
 
-pub heard_nothing : (managed : ManagedParameters) (s : List ℕ) (r : ChannelRecord) {t : Tally} → length r.slots ≡ 8 → t ≡ no_frames → Heard managed s r r t 0
-heard_nothing managed s r {t} long e = record {
-  goes = subst (λ (v : Tally). Goes managed s r r v 0) (sym e) (goes_nothing managed s r);
-  eight = long;
-  few = omega (arith, ap total e);
-  sum = omega (arith, ap (λ (v : Tally). v.missing) e);
-}
-
 module _ {managed : ManagedParameters} {s : List ℕ} {r₀ r : ChannelRecord} {t : Tally} {place : ℕ} (h : Heard managed s r₀ r t place) where
   pub heard_small : place + 1 < 2 ^ 64 → Small t
   heard_small low =
