@@ -24,7 +24,7 @@ use Rattle.uslp_record.specs.declared.SlotState.TheVariants.{Closed, Opened, Hea
 use Rattle.uslp_record.proofs.Back.{keeping_one}
 use Rattle.uslp_hearing.specs.declared.FrameArrival.TheVariants.{New, Repeat}
 use Rattle.uslp_hearing.specs.declared.FrameArrival.{FrameArrival}
-use Rattle.uslp_hearing.specs.declared.Hearing.{Hearing}
+use Rattle.uslp_record.specs.declared.Recorded.{Recorded}
 use Rattle.uslp_hearing.proofs as hearing
 use Rattle.uslp_demands.specs.Promise.{Function, function, at, Allows, Settles, Shows}
 use Rattle.uslp_roundtrip.specs.Samples.{octets_f, some, whole, read_f}
@@ -58,7 +58,7 @@ abbrev handed_first : ChannelRecord → ℕ
 handed_first r = handed_in (state_at r 0)
 
 -- two answers with the record after them that say the same are the same
-hearing_one : {x y : Hearing} → keeping (paper x.answer) x.next ≡ keeping (paper y.answer) y.next → x ≡ y
+hearing_one : {x y : Recorded FrameArrival} → keeping (paper x.answer) x.next ≡ keeping (paper y.answer) y.next → x ≡ y
 hearing_one {x} {y} q =
     let e = keeping_one q in
     λ i. record { answer = paper_one {x = x.answer} {y = y.answer} e.0 i; next = e.1 i }

@@ -17,10 +17,7 @@ use Rattle.uslp_primary_header.specs.declared.PrimaryHeader.{PrimaryHeader}
 use Rattle.uslp_data_field_header.specs.Field.{field_reading}
 use Rattle.uslp_data_field_header.specs.declared.TransferFrameDataFieldHeader.{TransferFrameDataFieldHeader}
 use Rattle.uslp_reader.specs.Reader.{frame_reading}
-use Rattle.uslp_lent.specs.declared.reader.IdAnswer.{IdAnswer}
-use Rattle.uslp_lent.specs.declared.reader.IdAnswer.TheVariants as id_answer
-use Rattle.uslp_lent.specs.declared.reader.RoleAnswer.TheVariants as role_answer
-use Rattle.uslp_lent.specs.declared.reader.OcfAnswer.TheVariants as ocf_answer
+use Rattle.uslp_reader.specs.declared.TransferFrame.{TransferFrame}
 use Rattle.uslp_lent.specs.declared.reader.TransferFrameReader.{TransferFrameReader}
 use Rattle.uslp_lent.proofs.reader as lent
 use Rattle.uslp_lent.specs.contracts.reader as contracts
@@ -41,7 +38,7 @@ fn_frame_data_len = function lent.frame_data_len.Kinds.ps lent.frame_data_len.Ki
 
 -- a reader that keeps the octets of frame F: it was read, or it was refused
 abbrev over : Result TransferFrame Refusal → TransferFrameReader
-over answer = record { raw = at octets_f; found = record { answer = answer } }
+over answer = record { raw = at octets_f; found = answer }
 
 abbrev read : TransferFrameReader
 read = over (Ok read_f)
@@ -56,9 +53,9 @@ pub from_bytes_settles : Settles reader.from_bytes.ended (λ M 𝓤. reader.from
 from_bytes_settles =
     by_fact _ _
     (λ κs a x y s t.
-    let e = paper_one {x = x.0.found.answer} {y = y.0.found.answer}
+    let e = paper_one {x = x.0.found} {y = y.0.found}
     (s.1 ∙ sym t.1) in
-    alike (λ i. record { raw = (s.0 ∙ sym t.0) i; found = record { answer = e i } }) refl)
+    alike (λ i. record { raw = (s.0 ∙ sym t.0) i; found = e i }) refl)
 
 -- refuses what can be read
 pub from_bytes_refuser : ShutsOut reader.from_bytes.ended (λ M 𝓤. reader.from_bytes.clauses) ([], tt) (at octets_f, (no_fecf, tt)) (unread, (tt, (tt, tt)))
@@ -141,45 +138,45 @@ operational_control_field_settles = by_fact _ _
 
 -- an OCF of 0 where there is none
 pub operational_control_field_zero : ShutsOut reader.operational_control_field.ended (λ M 𝓤. reader.operational_control_field.clauses) ([], tt)
-    (read, tt) (ocf_answer.Done (Some 0), (tt, tt))
+    (read, tt) (Ok (Some 0), (tt, tt))
 operational_control_field_zero = shut _ _ (λ e. let d : Some 0 ≡ None = done_one e in let z : ◌≡◌ {A = ℕ} 0 1 = cc in omega arith)
 
 -- no OCF on a refusal
 pub operational_control_field_absent : ShutsOut reader.operational_control_field.ended (λ M 𝓤. reader.operational_control_field.clauses) ([], tt)
-    (unread, tt) (ocf_answer.Done None, (tt, tt))
+    (unread, tt) (Ok None, (tt, tt))
 operational_control_field_absent = shut _ _ (λ e. not_done (sym e))
 
 pub vc_id_settles : Settles reader.vc_id.ended (λ M 𝓤. reader.vc_id.clauses)
 vc_id_settles = by_fact _ _ (λ κs a x y s t. alike (id_alike {x = x.0} {y = y.0} (s ∙ sym t)) refl)
 
 -- the map id
-pub vc_id_map : ShutsOut reader.vc_id.ended (λ M 𝓤. reader.vc_id.clauses) ([], tt) (read, tt) (id_answer.Done 3, (tt, tt))
+pub vc_id_map : ShutsOut reader.vc_id.ended (λ M 𝓤. reader.vc_id.clauses) ([], tt) (read, tt) (Ok 3, (tt, tt))
 vc_id_map = shut _ _ (λ e. let z : ◌≡◌ {A = ℕ} 3 5 = done_one e in omega arith)
 
 -- 0 on a refusal
-pub vc_id_zero : ShutsOut reader.vc_id.ended (λ M 𝓤. reader.vc_id.clauses) ([], tt) (unread, tt) (id_answer.Done 0, (tt, tt))
+pub vc_id_zero : ShutsOut reader.vc_id.ended (λ M 𝓤. reader.vc_id.clauses) ([], tt) (unread, tt) (Ok 0, (tt, tt))
 vc_id_zero = shut _ _ (λ e. not_done (sym e))
 
 pub map_id_settles : Settles reader.map_id.ended (λ M 𝓤. reader.map_id.clauses)
 map_id_settles = by_fact _ _ (λ κs a x y s t. alike (id_alike {x = x.0} {y = y.0} (s ∙ sym t)) refl)
 
 -- the channel
-pub map_id_channel : ShutsOut reader.map_id.ended (λ M 𝓤. reader.map_id.clauses) ([], tt) (read, tt) (id_answer.Done 5, (tt, tt))
+pub map_id_channel : ShutsOut reader.map_id.ended (λ M 𝓤. reader.map_id.clauses) ([], tt) (read, tt) (Ok 5, (tt, tt))
 map_id_channel = shut _ _ (λ e. let z : ◌≡◌ {A = ℕ} 5 3 = done_one e in omega arith)
 
 -- 0 on a refusal
-pub map_id_zero : ShutsOut reader.map_id.ended (λ M 𝓤. reader.map_id.clauses) ([], tt) (unread, tt) (id_answer.Done 0, (tt, tt))
+pub map_id_zero : ShutsOut reader.map_id.ended (λ M 𝓤. reader.map_id.clauses) ([], tt) (unread, tt) (Ok 0, (tt, tt))
 map_id_zero = shut _ _ (λ e. not_done (sym e))
 
 pub spacecraft_id_settles : Settles reader.spacecraft_id.ended (λ M 𝓤. reader.spacecraft_id.clauses)
 spacecraft_id_settles = by_fact _ _ (λ κs a x y s t. alike (id_alike {x = x.0} {y = y.0} (s ∙ sym t)) refl)
 
 -- its low octet
-pub spacecraft_id_low : ShutsOut reader.spacecraft_id.ended (λ M 𝓤. reader.spacecraft_id.clauses) ([], tt) (read, tt) (id_answer.Done 0x34, (tt, tt))
+pub spacecraft_id_low : ShutsOut reader.spacecraft_id.ended (λ M 𝓤. reader.spacecraft_id.clauses) ([], tt) (read, tt) (Ok 0x34, (tt, tt))
 spacecraft_id_low = shut _ _ (λ e. let z : ◌≡◌ {A = ℕ} 0x34 0x1234 = done_one e in omega arith)
 
 -- 0 on a refusal
-pub spacecraft_id_zero : ShutsOut reader.spacecraft_id.ended (λ M 𝓤. reader.spacecraft_id.clauses) ([], tt) (unread, tt) (id_answer.Done 0, (tt, tt))
+pub spacecraft_id_zero : ShutsOut reader.spacecraft_id.ended (λ M 𝓤. reader.spacecraft_id.clauses) ([], tt) (unread, tt) (Ok 0, (tt, tt))
 spacecraft_id_zero = shut _ _ (λ e. not_done (sym e))
 
 pub source_or_dest_field_settles : Settles reader.source_or_dest_field.ended (λ M 𝓤. reader.source_or_dest_field.clauses)
@@ -188,12 +185,12 @@ source_or_dest_field_settles = by_fact _ _
 
 -- the source for all
 pub source_or_dest_field_source : ShutsOut reader.source_or_dest_field.ended (λ M 𝓤. reader.source_or_dest_field.clauses) ([], tt) (read, tt)
-    (role_answer.Done Source, (tt, tt))
+    (Ok Source, (tt, tt))
 source_or_dest_field_source = shut _ _ (λ e. let d : Source ≡ Dest = done_one e in let z : ◌≡◌ {A = ℕ} 0 1 = cc in omega arith)
 
 -- the destination on a refusal
 pub source_or_dest_field_made_up : ShutsOut reader.source_or_dest_field.ended (λ M 𝓤. reader.source_or_dest_field.clauses) ([], tt) (unread, tt)
-    (role_answer.Done Dest, (tt, tt))
+    (Ok Dest, (tt, tt))
 source_or_dest_field_made_up = shut _ _ (λ e. not_done (sym e))
 
 pub frame_data_shows : Shows contracts.frame_data.ended (λ M 𝓤. contracts.frame_data.clauses) (λ κs a r. r)

@@ -1,6 +1,7 @@
 -- The promises of `uslp_record` settle each call, and shut out two tempting wrong answers of each function.
 use mathlib.Core.Path.{◌≡◌, refl, sym, ap, ◌∙◌}
 use mathlib.Core.Bool.{true}
+use mathlib.Core.List.{[]}
 use Prim.Native.Nat.{ℕ, ◌^◌}
 use native.Mathlib.Omega.{arith}
 use lib.ListN.{get_or}
@@ -23,7 +24,8 @@ use Rattle.uslp_record.proofs as channels
 use Rattle.uslp_demands.specs.Promise.{Function, function, Allows, Settles, Program, Keeps}
 use Rattle.uslp_demands.specs.Cases.{channel, last_heard}
 use Rattle.uslp_demands.proofs.Alike.{alike, done_alike}
-use Rattle.std.specs.Prelude.{Ok, Err}
+use Rattle.std.specs.Borrow.{Bor}
+use Rattle.std.specs.Prelude.{Ok, Err, Some, None}
 
 -- the functions, each with its promise
 abbrev fn_new : Function
@@ -53,11 +55,13 @@ fn_total_missing =
 
 abbrev fn_same_channel : Function
 fn_same_channel =
-    function channels.same_channel.Kinds.ps channels.same_channel.Kinds.r
-    channels.same_channel.Reads.Pre channels.same_channel.Reads.Learnt
+    function channels.ChannelPartialEq.eq.Kinds.ps channels.ChannelPartialEq.eq.Kinds.r
+    channels.ChannelPartialEq.eq.Reads.Pre channels.ChannelPartialEq.eq.Reads.Learnt
 
 abbrev fn_search : Function
-fn_search = function channels.search.Kinds.ps channels.search.Kinds.r channels.search.Reads.Pre channels.search.Reads.Learnt
+fn_search =
+    function channels.ChannelRecord.search.Kinds.ps channels.ChannelRecord.search.Kinds.r
+    channels.ChannelRecord.search.Reads.Pre channels.ChannelRecord.search.Reads.Learnt
 
 abbrev pub fn_hear_count : Function
 fn_hear_count =
@@ -165,17 +169,21 @@ pub total_missing_full : Allows fn_total_missing tt (empty_record, tt) (Err Tota
 unfolding console_total too_much_in missing_in
 total_missing_full e = let z : ◌≡◌ {A = ℕ} 0 1 = cc in omega arith
 
+-- a channel that is looked at
+abbrev seen : Channel → Bor Channel
+seen k = record { ref_ptr = (0, 0); now = k }
+
 pub same_channel_settles : Settles fn_same_channel
 same_channel_settles = record { total = λ κs a. tt; same = λ κs a x y s t. alike (s ∙ sym t) refl }
 
 -- compares the channel number alone
-pub same_channel_number : Allows fn_same_channel tt
-    (channel, (record { spacecraft_id = 0; vc_id = 5; sequence_control_flag = SequenceControlledQoS }, tt)) (true, (tt, (tt, tt))) → ⊥
+pub same_channel_number : Allows fn_same_channel ([], ([], tt))
+    (seen channel, (seen (record { spacecraft_id = 0; vc_id = 5; sequence_control_flag = SequenceControlledQoS }), tt)) (true, (tt, (tt, tt))) → ⊥
 same_channel_number e = let z : ◌≡◌ {A = ℕ} 0 1 = cc in omega arith
 
 -- compares the spacecraft alone
-pub same_channel_craft : Allows fn_same_channel tt
-    (channel, (record { spacecraft_id = 0x1234; vc_id = 6; sequence_control_flag = SequenceControlledQoS }, tt)) (true, (tt, (tt, tt))) → ⊥
+pub same_channel_craft : Allows fn_same_channel ([], ([], tt))
+    (seen channel, (seen (record { spacecraft_id = 0x1234; vc_id = 6; sequence_control_flag = SequenceControlledQoS }), tt)) (true, (tt, (tt, tt))) → ⊥
 same_channel_craft e = let z : ◌≡◌ {A = ℕ} 0 1 = cc in omega arith
 
 -- the expedited channel of the same number
@@ -183,21 +191,21 @@ abbrev rushed : Channel
 rushed = record { spacecraft_id = 0x1234; vc_id = 5; sequence_control_flag = ExpeditedQoS }
 
 -- ignores the flag
-pub same_channel_flag : Allows fn_same_channel tt (channel, (rushed, tt)) (true, (tt, (tt, tt))) → ⊥
+pub same_channel_flag : Allows fn_same_channel ([], ([], tt)) (seen channel, (seen rushed, tt)) (true, (tt, (tt, tt))) → ⊥
 same_channel_flag e = let z : ◌≡◌ {A = ℕ} 0 1 = cc in omega arith
 
 pub search_settles : Settles fn_search
 search_settles = record { total = λ κs a. tt; same = λ κs a x y s t. alike (s ∙ sym t) refl }
 
 -- the last slot that holds the channel
-pub search_last : Allows fn_search tt (put opened 3 (Opened channel 2), (channel, tt)) (3, (tt, (tt, tt))) → ⊥
+pub search_last : Allows fn_search tt (put opened 3 (Opened channel 2), (channel, tt)) (Some 3, (tt, (tt, tt))) → ⊥
 unfolding find
-search_last e = omega arith
+search_last e = let z : ◌≡◌ {A = ℕ} 3 0 = cc in omega arith
 
 -- the first slot where none holds it
-pub search_zero : Allows fn_search tt (empty_record, (channel, tt)) (0, (tt, (tt, tt))) → ⊥
+pub search_zero : Allows fn_search tt (empty_record, (channel, tt)) (Some 0, (tt, (tt, tt))) → ⊥
 unfolding find
-search_zero e = omega arith
+search_zero e = let z : ◌≡◌ {A = ℕ} 0 1 = cc in omega arith
 
 -- a search that ignores the flag: it finds the same slot for both channels of a number
 pub search_flag : (f : Program fn_search) → Keeps fn_search f
@@ -205,8 +213,9 @@ pub search_flag : (f : Program fn_search) → Keeps fn_search f
     → ⊥
 unfolding find
 search_flag f keeps same =
-    let z : ◌≡◌ {A = ℕ} 0 8 =
-    sym (keeps tt (opened, (channel, tt))) ∙ same opened channel rushed refl refl ∙ keeps tt (opened, (rushed, tt)) in omega arith
+    let d : Some 0 ≡ None =
+    sym (keeps tt (opened, (channel, tt))) ∙ same opened channel rushed refl refl ∙ keeps tt (opened, (rushed, tt)) in
+    let z : ◌≡◌ {A = ℕ} 0 1 = cc in omega arith
 
 pub hear_count_settles : Settles fn_hear_count
 hear_count_settles = record {
@@ -256,17 +265,17 @@ slot_judge_count_settles = record {
 
 -- a slot in which a frame of another width is counted; a REPEAT that empties it
 pub slot_judge_count_width : (x : Slot)
-    → Allows fn_slot_judge_count tt (slot_of (Opened channel 1), (channel, (2, (7, tt)))) (Ok (New 0) x, (tt, (tt, (tt, (tt, tt))))) → ⊥
+    → Allows fn_slot_judge_count tt (slot_of (Opened channel 1), (channel, (2, (7, tt)))) (Ok (New 0, x), (tt, (tt, (tt, (tt, tt))))) → ⊥
 unfolding slot_judging
 slot_judge_count_width x e = not_done (sym e)
 
 -- a count that does not fit its width
 pub slot_judge_count_unfit : (a : Arrival) (x : Slot)
-    → Allows fn_slot_judge_count tt (slot_of (Opened channel 1), (channel, (1, (300, tt)))) (Ok a x, (tt, (tt, (tt, (tt, tt))))) → ⊥
+    → Allows fn_slot_judge_count tt (slot_of (Opened channel 1), (channel, (1, (300, tt)))) (Ok (a, x), (tt, (tt, (tt, (tt, tt))))) → ⊥
 unfolding slot_judging
 slot_judge_count_unfit a x e = not_done (sym e)
 
 pub slot_judge_count_empties : Allows fn_slot_judge_count tt (slot_of (state_at (last_heard 1 0) 0), (channel, (1, (0, tt))))
-    (Ok Repeat (slot_of (Opened channel 1)), (tt, (tt, (tt, (tt, tt))))) → ⊥
+    (Ok (Repeat, slot_of (Opened channel 1)), (tt, (tt, (tt, (tt, tt))))) → ⊥
 unfolding slot_judging
 slot_judge_count_empties e = let z : ◌≡◌ {A = ℕ} 0 1 = ap (λ (x : Arrival × Slot). handed_in x.1.state) (done_one e) in omega arith

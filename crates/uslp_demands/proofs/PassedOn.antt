@@ -10,6 +10,10 @@ use Rattle.uslp_kinds.specs.Outcome.{Outcome, and_then}
 use Rattle.uslp_kinds.specs.declared.ManagedParameters.{ManagedParameters}
 use Rattle.uslp_kinds.specs.declared.Refusal.{Refusal}
 use Rattle.uslp_kinds.proofs.Back.{paper_one}
+use Rattle.uslp_kinds.specs.declared.SourceOrDestField.{SourceOrDestField}
+use Rattle.uslp_primary_header.specs.declared.PrimaryHeader.{PrimaryHeader}
+use Rattle.uslp_data_field_header.specs.declared.TransferFrameDataFieldHeader.{TransferFrameDataFieldHeader}
+use Rattle.uslp_hearing.specs.declared.FrameArrival.{FrameArrival}
 use Rattle.uslp_reader.specs.Reader.{frame_reading}
 use Rattle.uslp_reader.specs.declared.TransferFrame.{TransferFrame}
 use Rattle.uslp_record.specs.Record.{applied}
@@ -21,12 +25,6 @@ use Rattle.uslp_end_to_end.specs.declared.ManyHearing.{ManyHearing}
 use Rattle.uslp_end_to_end.proofs.Stops.{refused_there, refused_first, stops_first}
 use Rattle.uslp_intake.specs.declared.IntakeAnswer.TheVariants.{Stopped}
 use Rattle.uslp_intake.proofs.Calls.{stop_read}
-use Rattle.uslp_lent.specs.declared.reader.IdAnswer.{IdAnswer}
-use Rattle.uslp_lent.specs.declared.reader.IdAnswer.TheVariants as id_answer
-use Rattle.uslp_lent.specs.declared.reader.RoleAnswer.{RoleAnswer}
-use Rattle.uslp_lent.specs.declared.reader.RoleAnswer.TheVariants as role_answer
-use Rattle.uslp_lent.specs.declared.reader.OcfAnswer.{OcfAnswer}
-use Rattle.uslp_lent.specs.declared.reader.OcfAnswer.TheVariants as ocf_answer
 use Rattle.uslp_lent.specs.declared.reader.TransferFrameReader.{TransferFrameReader}
 use Rattle.uslp_lent.specs.contracts.reader.TransferFrameReader as reader
 use Rattle.uslp_demands.specs.Promise.{at, Allows}
@@ -52,7 +50,7 @@ module _ (κs : Lfts 1) (s : Bor (List ℕ)) (managed : ManagedParameters) (r : 
       (paper_one k.0, k.1)
 
   pub lent_passes_on : (x : TransferFrameReader)
-      → Implies reader.from_bytes.ended (λ M 𝓤. reader.from_bytes.clauses) κs (s, (managed, tt)) (x, (tt, (tt, tt))) (x.found.answer ≡ Err r)
+      → Implies reader.from_bytes.ended (λ M 𝓤. reader.from_bytes.clauses) κs (s, (managed, tt)) (x, (tt, (tt, tt))) (x.found ≡ Err r)
   lent_passes_on x =
       implies _ _ (λ e. paper_one (e.1 ∙ sym reads))
 
@@ -79,7 +77,7 @@ many_stopped_on q s managed x e r stopped y reads =
 -- each accessor of a reader that found no frame answers why: the refusal is the frame's own
 module _ (s : Bor (List ℕ)) (r : Refusal) where
   abbrev refusing : TransferFrameReader
-  refusing = record { raw = s; found = record { answer = Err r } }
+  refusing = record { raw = s; found = Err r }
 
   pub answer_passes_on : (y : Result TransferFrame Refusal)
       → Implies reader.answer.ended (λ M 𝓤. reader.answer.clauses) ([], tt) (refusing, tt) (y, (tt, tt)) (y ≡ Err r)
@@ -99,25 +97,25 @@ module _ (s : Bor (List ℕ)) (r : Refusal) where
 
   pub ocf_passes_on : (y : Result (Option ℕ) Refusal)
       → Implies reader.operational_control_field.ended (λ M 𝓤. reader.operational_control_field.clauses) ([], tt) (refusing, tt) (y, (tt, tt))
-      (y ≡ ocf_answer.Refused r)
+      (y ≡ Err r)
   ocf_passes_on y = implies _ _ (λ e. paper_one e)
 
-  id_passes : (y : Result ℕ Refusal) → paper y ≡ paper (id_answer.Refused r) → y ≡ id_answer.Refused r
+  id_passes : (y : Result ℕ Refusal) → paper y ≡ paper (Err r) → y ≡ Err r
   id_passes y = paper_one
 
-  pub vc_id_passes_on : (y : Result ℕ Refusal) → Implies reader.vc_id.ended (λ M 𝓤. reader.vc_id.clauses) ([], tt) (refusing, tt) (y, (tt, tt)) (y ≡ id_answer.Refused r)
+  pub vc_id_passes_on : (y : Result ℕ Refusal) → Implies reader.vc_id.ended (λ M 𝓤. reader.vc_id.clauses) ([], tt) (refusing, tt) (y, (tt, tt)) (y ≡ Err r)
   vc_id_passes_on y = implies _ _ (id_passes y)
 
   pub map_id_passes_on : (y : Result ℕ Refusal)
-      → Implies reader.map_id.ended (λ M 𝓤. reader.map_id.clauses) ([], tt) (refusing, tt) (y, (tt, tt)) (y ≡ id_answer.Refused r)
+      → Implies reader.map_id.ended (λ M 𝓤. reader.map_id.clauses) ([], tt) (refusing, tt) (y, (tt, tt)) (y ≡ Err r)
   map_id_passes_on y = implies _ _ (id_passes y)
 
   pub spacecraft_id_passes_on : (y : Result ℕ Refusal)
-      → Implies reader.spacecraft_id.ended (λ M 𝓤. reader.spacecraft_id.clauses) ([], tt) (refusing, tt) (y, (tt, tt)) (y ≡ id_answer.Refused r)
+      → Implies reader.spacecraft_id.ended (λ M 𝓤. reader.spacecraft_id.clauses) ([], tt) (refusing, tt) (y, (tt, tt)) (y ≡ Err r)
   spacecraft_id_passes_on y = implies _ _ (id_passes y)
 
   pub role_passes_on : (y : Result SourceOrDestField Refusal)
-      → Implies reader.source_or_dest_field.ended (λ M 𝓤. reader.source_or_dest_field.clauses) ([], tt) (refusing, tt) (y, (tt, tt)) (y ≡ role_answer.Refused r)
+      → Implies reader.source_or_dest_field.ended (λ M 𝓤. reader.source_or_dest_field.clauses) ([], tt) (refusing, tt) (y, (tt, tt)) (y ≡ Err r)
   role_passes_on y = implies _ _ (λ e. paper_one e)
 
 -- where the intake stops, the reader refuses what is held with that refusal
