@@ -25,7 +25,7 @@ use Rattle.uslp_demands.specs.Promise.{Function, function, Allows, Settles, Prog
 use Rattle.uslp_demands.specs.Cases.{channel, last_heard}
 use Rattle.uslp_demands.proofs.Alike.{alike, done_alike}
 use Rattle.std.specs.Borrow.{Bor}
-use Rattle.std.specs.Prelude.{Ok, Err, Some, None}
+use Rattle.std.specs.Prelude.{Option, Ok, Err, Some, None}
 
 -- the functions, each with its promise
 abbrev fn_new : Function
@@ -213,7 +213,7 @@ pub search_flag : (f : Program fn_search) → Keeps fn_search f
     → ⊥
 unfolding find
 search_flag f keeps same =
-    let d : Some 0 ≡ None =
+    let d : ◌≡◌ {A = Option ℕ} (Some 0) None =
     sym (keeps tt (opened, (channel, tt))) ∙ same opened channel rushed refl refl ∙ keeps tt (opened, (rushed, tt)) in
     let z : ◌≡◌ {A = ℕ} 0 1 = cc in omega arith
 
