@@ -29,7 +29,7 @@ pub struct Tally {
     pub total_full: u64,
 }
 
-// What the call comes to: the place reached, the tally of the frames before it, and the record after them. `stop` is DONE
+// What the call comes to: the place reached, the tally of the frames before it, and the record after them. `stop` is Ok
 // where the octets are used up, else the reader's refusal of what is left.
 #[derive(Clone, Copy, Debug)]
 pub struct ManyHearing {
