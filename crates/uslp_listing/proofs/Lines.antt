@@ -138,7 +138,8 @@ module _ (s t : List ℕ) where
       simp (le-ltb (length t) room h, is) (ap₂ (λ (n : ℕ) (x : List ℕ). leaving (done n) x) w.0 w.1)
 
   -- the same where the text stands on a page over that buffer, which the page leaves to its lender
-  pub over_put : {end : ℕ} {text now left : List ℕ} → room ≤ length t → listing s ≡ text → length text ≤ room → Told text 0 t end now → now ≡ left
+  pub over_put : {end : ℕ} {text now left : List ℕ} → room ≤ length t → listing s ≡ text → length text ≤ room
+      → Told text 0 t end now → now ≡ left
       → leaving (done end) left ≡ listing_over s t
   over_put {end} {text} h is fits p e = over_done h is fits (subst (λ (x : List ℕ). Told text 0 t end x) e p)
 

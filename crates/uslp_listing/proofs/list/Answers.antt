@@ -11,7 +11,8 @@ returns-then-found-lt-LISTING_ROOM c = over_short _ _ (omega arith)
 pub returns-then-recording-gt-MAX_RECORDING_LEN : goal.returns-then-recording-gt-MAX_RECORDING_LEN
 returns-then-recording-gt-MAX_RECORDING_LEN c =
     let same = c.put_summary.ensures.same_out ∙ c.put.ensures.same_out in
-    over_put _ _ (omega arith) (listing_long _ (omega arith)) (omega (arith, summary_short 0 0 12 (omega arith) (omega arith) (omega arith)))
+    let short = summary_short 0 0 12 (omega arith) (omega arith) (omega arith) in
+    over_put _ _ (omega arith) (listing_long _ (omega arith)) (omega (arith, short))
     (told_more c.put.ensures.told (told_as (ap (summary 0 0) c.number.ensures) c.put_summary.ensures.told)) (search rules)
 
 pub returns : goal.returns

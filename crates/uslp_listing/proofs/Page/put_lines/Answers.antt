@@ -40,4 +40,5 @@ returns-in-Err c =
 pub returns : goal.returns
 returns c =
     let whole = passed_all c.requires c.loop-place.invariant.1 (omega arith) c.put_summary-2.ensures.told in
-    record { added = record { same_out = c.put_summary-2.ensures.same_out ∙ c.loop-place.invariant.0; told = whole.0 }; recording_len_bound = whole.1 }
+    let same = c.put_summary-2.ensures.same_out ∙ c.loop-place.invariant.0 in
+    record { added = record { same_out = same; told = whole.0 }; recording_len_bound = whole.1 }

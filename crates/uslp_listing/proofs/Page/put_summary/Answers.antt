@@ -6,5 +6,5 @@ use Rattle.uslp_listing.proofs.Page.put_summary.Goals as goal
 
 pub returns : goal.returns
 returns c =
-    added_as (simp append_assoc)
-    (added_more c.put.ensures (added_more c.put_word.ensures (added_more c.put_word-2.ensures (added_as (ap (λ (n : ℕ). decimal n ++ text "\n") c.from.ensures) c.put_word-3.ensures))))
+    let last = added_as (ap (λ (n : ℕ). decimal n ++ text "\n") c.from.ensures) c.put_word-3.ensures in
+    added_as (simp append_assoc) (added_more c.put.ensures (added_more c.put_word.ensures (added_more c.put_word-2.ensures last)))
