@@ -14,7 +14,6 @@ use Rattle.uslp_demands.proofs.Alike.{alike, done_alike}
 use Rattle.uslp_demands.proofs.Facts.{by_fact, shut}
 use Rattle.std.specs.Prelude.{Ok, Err}
 
-
 -- a header that is lent for writing
 abbrev lent : PrimaryHeader → MutBor PrimaryHeader
 lent h = record { ref_ptr = (0, 0); ghost_name = 0; now = h }

@@ -11,7 +11,7 @@ use crate::columns::{Section, entries_len, flag_at, flag_len};
 use crate::saving::rank_of;
 use uslp_form::Form;
 use uslp_kinds::{BypassSequenceControlFlag, MAX_COUNT_LEN, MAX_VC_ID};
-use uslp_octets::{be_number, be_u16};
+use uslp_octets::be_number;
 use uslp_record::{Channel, ChannelRecord, MOST, SLOTS, SlotState, Totals};
 
 // Octets that have the shape of a form, and their counts: how many entries are not heard, and how many there are in all.
@@ -143,7 +143,7 @@ fn channel_at(form: Form, from: &[u8], at: usize) -> Channel
 {
     let flag = flag_at(form, from, at + 3);
     Channel {
-        spacecraft_id: be_u16(from[at], from[at + 1]),
+        spacecraft_id: u16::from_be_bytes([from[at], from[at + 1]]),
         vc_id: from[at + 2],
         sequence_control_flag: BypassSequenceControlFlag::from(flag),
     }
