@@ -12,7 +12,7 @@ use uslp_reader::TransferFrame;
 
 // What a call did with its block: how many octets it took, and how many the holding buffer now holds. Four ends, and no Result:
 // a caller goes on after three of them, and a stop too says what was taken.
-#[derive(Clone, Copy)]
+#[derive(Clone, Copy, Debug)]
 pub enum IntakeAnswer {
     // The block is taken whole, and what is held is no frame yet.
     Waiting {

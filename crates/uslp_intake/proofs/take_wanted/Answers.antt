@@ -87,7 +87,8 @@ loop-frame-preserved c =
       taken_more c.requires.1 c.loop-frame.invariant.1 (answered c.from_bytes.ensures c.in-Err.is) n c.loop-frame.invariant.0
           (λ k. omega (arith, c.type_inv.block k)) (omega (arith, c.lacking-wanted.ensures))
           (omega (arith, fits, c.loop-frame.invariant.1.inside))
-          (copied (drop taken block) n (ap (take n) (rest_is block taken)) _ _ (omega (arith, fits, length-drop taken block)) c.hold-in-Err.ensures),
+          (copied (drop taken block) n (ap (take n) (rest_is block taken)) _ _ (omega (arith, fits, length-drop taken block))
+          c.hold-in-Err.ensures),
     )
 
 pub loop-frame-smaller : goal.loop-frame-smaller
