@@ -5,7 +5,7 @@ use Prim.Native.Nat.{ℕ, zero, suc, ◌+◌, ◌-◌, ◌*◌, ◌<◌, ◌≤�
 use native.Mathlib.Omega.{arith}
 use lib.ListN.{length, take, drop, get_or, set, replicate, get_or-append}
 use lib.Seq.{get_or-append-add, drop-drop, take_all, length-take-le}
-use Rattle.uslp_record.specs.Slots.{slot_of, put, empty_record}
+use Rattle.uslp_record.specs.Slots.{slot_of, put}
 use Rattle.uslp_record.specs.declared.SlotState.{SlotState}
 use Rattle.uslp_record.specs.declared.SlotState.TheVariants.{Closed}
 use Rattle.uslp_record.specs.declared.Slot.{Slot}
@@ -48,9 +48,6 @@ slots_more : (l : List SlotState) (m i : ℕ) → i < length l
 slots_more [] m i h = absurd (omega arith)
 slots_more (x ∷ l) m zero h = refl
 slots_more (x ∷ l) m (suc i) h = ap (λ (z : List Slot). slot_of x ∷ z) (slots_more l m i (omega arith))
-
-pub filled_none : (l : List SlotState) → empty_record ≡ restored (take 0 l)
-filled_none l = refl
 
 pub filled_more : (l : List SlotState) (r : ChannelRecord) (i : ℕ) (x : SlotState) → i < length l → i < 8 → r ≡ restored (take i l) → x ≡ get_or l i Closed
     → put r i x ≡ restored (take (suc i) l)
