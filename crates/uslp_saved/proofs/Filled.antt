@@ -13,7 +13,7 @@ use Rattle.uslp_record.specs.declared.ChannelRecord.{ChannelRecord}
 use Rattle.uslp_form.specs.declared.Form.{Form}
 use Rattle.uslp_form.specs.Form.{restored}
 use Rattle.uslp_form.specs.FromRow.{unheard_long, heard_long}
-use Rattle.uslp_saved.specs.Reading.{unheard_in, heard_in, entries_in, first_count, second, second_count, place_of, unheard_of_octets, heard_of_octets, entries_of_octets, FlagFits}
+use Rattle.uslp_saved.specs.Reading.{unheard_in, heard_in, entries_in, first_count, second, second_count, place_of, unheard_of_octets, heard_of_octets, entries_of_octets}
 use Rattle.uslp_saved.proofs.Entries.{place_first, place_second, unheard_long_lem}
 
 entry_in : (read : List ℕ → SlotState) (long n : ℕ) (s : List ℕ) (i : ℕ) → i < n → get_or (entries_in read long n s) i Closed ≡ read (drop (i * long) s)
@@ -36,11 +36,6 @@ module _ (f : Form) (s : List ℕ) (i p : ℕ) (spot : p ≡ place_of f (first_c
       sym (ap (λ (k : ℕ). get_or (entries_of_octets f s) k Closed) (sym y) ∙ get_or-append-add (unheard_of_octets f s) (heard_of_octets f s) j Closed
       ∙ entry_in (heard_in f) (heard_long f) (second_count f s) (drop (second f s + 1) s) j (omega arith)
       ∙ ap (heard_in f) (place_second f s i far ∙ ap (λ (k : ℕ). drop k s) (sym spot)))
-
--- each flag up to the i-th is 0 or 1
-module _ (f : Form) (s : List ℕ) (i : ℕ) where
-  abbrev pub FlagsTo : Type 0
-  FlagsTo = (j : ℕ) → j < i → FlagFits f (drop (place_of f (first_count f s) j) s)
 
 -- one more entry
 slots_more : (l : List SlotState) (m i : ℕ) → i < length l
