@@ -167,6 +167,7 @@ fn eight_at(from: &[u8], at: usize) -> u64
     be_number(&from[at..at + 8])
 }
 
+#[tactic(auto, using(crate::proofs::Telling::first_open))]
 fn is_first(channels: ChannelRecord, i: usize, state: SlotState) -> bool
     requires { i < 8 }
     ensures { Tells result (FirstAt channels i state) }

@@ -11,7 +11,8 @@ returns c =
     let o = c.args.self.now in
     let Fit : ℕ → ℕ → Type 0 = λ n i. FlagFits o.form (drop (place_of o.form n i) o.from.now) in
     let each = tells_each o.total (Fit o.unheard) c.all.result
-    (cases_from_all _ _ _ (Fit o.unheard) (λ i. Fit o.unheard i → ⊥) c.all.ensures.ran (YieldsList-from_range 0 o.total o.total refl (omega arith))
+    (cases_from_all _ _ _ (Fit o.unheard) (λ i. Fit o.unheard i → ⊥) c.all.ensures.ran
+    (YieldsList-from_range 0 o.total o.total refl (omega arith))
     (λ x q k. search (rules, tests)) (λ x q k. search (rules, tests))) in
     subst (λ (n : ℕ). Tells c.all.result ((i : ℕ) → i < n → Fit (first_count o.form o.from.now) i)) o.all
     (subst (λ (n : ℕ). Tells c.all.result ((i : ℕ) → i < o.total → Fit n i)) o.first each)
