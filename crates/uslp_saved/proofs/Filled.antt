@@ -5,7 +5,7 @@ use Prim.Native.Nat.{ℕ, zero, suc, ◌+◌, ◌-◌, ◌*◌, ◌<◌, ◌≤�
 use native.Mathlib.Omega.{arith}
 use lib.ListN.{length, take, drop, get_or, set, replicate, get_or-append}
 use lib.Seq.{get_or-append-add, drop-drop, take_all, length-take-le}
-use Rattle.uslp_record.specs.Slots.{slot_of, put, empty_record}
+use Rattle.uslp_record.specs.Slots.{slot_of, put}
 use Rattle.uslp_record.specs.declared.SlotState.{SlotState}
 use Rattle.uslp_record.specs.declared.SlotState.TheVariants.{Closed}
 use Rattle.uslp_record.specs.declared.Slot.{Slot}
@@ -13,7 +13,7 @@ use Rattle.uslp_record.specs.declared.ChannelRecord.{ChannelRecord}
 use Rattle.uslp_form.specs.declared.Form.{Form}
 use Rattle.uslp_form.specs.Form.{restored}
 use Rattle.uslp_form.specs.FromRow.{unheard_long, heard_long}
-use Rattle.uslp_saved.specs.Reading.{unheard_in, heard_in, entries_in, first_count, second, second_count, place_of, unheard_of_octets, heard_of_octets, entries_of_octets, FlagFits}
+use Rattle.uslp_saved.specs.Reading.{unheard_in, heard_in, entries_in, first_count, second, second_count, place_of, unheard_of_octets, heard_of_octets, entries_of_octets}
 use Rattle.uslp_saved.proofs.Entries.{place_first, place_second, unheard_long_lem}
 
 entry_in : (read : List ℕ → SlotState) (long n : ℕ) (s : List ℕ) (i : ℕ) → i < n → get_or (entries_in read long n s) i Closed ≡ read (drop (i * long) s)
@@ -37,20 +37,12 @@ module _ (f : Form) (s : List ℕ) (i p : ℕ) (spot : p ≡ place_of f (first_c
       ∙ entry_in (heard_in f) (heard_long f) (second_count f s) (drop (second f s + 1) s) j (omega arith)
       ∙ ap (heard_in f) (place_second f s i far ∙ ap (λ (k : ℕ). drop k s) (sym spot)))
 
--- each flag up to the i-th is 0 or 1
-module _ (f : Form) (s : List ℕ) (i : ℕ) where
-  abbrev pub FlagsTo : Type 0
-  FlagsTo = (j : ℕ) → j < i → FlagFits f (drop (place_of f (first_count f s) j) s)
-
 -- one more entry
 slots_more : (l : List SlotState) (m i : ℕ) → i < length l
     → set (map slot_of (take i l) ++ replicate (suc m) (slot_of Closed)) i (slot_of (get_or l i Closed)) ≡ map slot_of (take (suc i) l) ++ replicate m (slot_of Closed)
 slots_more [] m i h = absurd (omega arith)
 slots_more (x ∷ l) m zero h = refl
 slots_more (x ∷ l) m (suc i) h = ap (λ (z : List Slot). slot_of x ∷ z) (slots_more l m i (omega arith))
-
-pub filled_none : (l : List SlotState) → empty_record ≡ restored (take 0 l)
-filled_none l = refl
 
 pub filled_more : (l : List SlotState) (r : ChannelRecord) (i : ℕ) (x : SlotState) → i < length l → i < 8 → r ≡ restored (take i l) → x ≡ get_or l i Closed
     → put r i x ≡ restored (take (suc i) l)

@@ -5,7 +5,7 @@ ghost use Rattle.uslp_octets.specs.Octets.{AreOctets, word};
 ghost use Rattle.uslp_record.specs.Made.{Openable, SoundTotals, Sound};
 ghost use Rattle.uslp_form.specs.Form.{restored};
 ghost use Rattle.uslp_form.specs.FromRow.{unheard_long};
-ghost use Rattle.uslp_saved.specs.Reading.{channel_from, totals_from, first_count, second_count, form_long, place_of, entries_of_octets, Shaped, Flagged, Tells, FirstAt, Above, Admitted, AllAdmitted};
+ghost use Rattle.uslp_saved.specs.Reading.{channel_from, totals_from, first_count, second_count, form_long, place_of, entries_of_octets, Shaped, FlagFits, Flagged, Tells, FirstAt, Above, Admitted, AllAdmitted};
 
 use crate::columns::{Section, entries_len, flag_at, flag_len};
 use crate::saving::rank_of;
@@ -55,12 +55,14 @@ impl<'a> Octets<'a> {
     pub(crate) fn flags_fit(&self) -> bool
         ensures { Tells result (Flagged self.now.form self.now.from.now) }
     {
-        for i in 0..self.total {
-            if flag_at(self.form, self.from, self.place_of(i) + 3) > 1 {
-                return false;
-            }
-        }
-        true
+        (0..self.total).all(|i| self.flag_fits(i))
+    }
+
+    fn flag_fits(&self, i: usize) -> bool
+        requires { i < self.now.total }
+        ensures { Tells result (FlagFits self.now.form (drop (place_of self.now.form self.now.unheard i) self.now.from.now)) }
+    {
+        flag_at(self.form, self.from, self.place_of(i) + 3) <= 1
     }
 
     // All entries, in slots from the first on.
@@ -108,12 +110,7 @@ impl<'a> Octets<'a> {
     pub(crate) fn admits(&self, channels: ChannelRecord) -> bool
         ensures { Tells result (AllAdmitted self.now.form channels self.now.unheard self.now.total) }
     {
-        for i in 0..self.total {
-            if !self.admits_slot(channels, i) {
-                return false;
-            }
-        }
-        true
+        (0..self.total).all(|i| self.admits_slot(channels, i))
     }
 
     // The entry in slot i is one that calls make, stands above the one before it in its section, and no slot before it holds its channel.
@@ -170,6 +167,7 @@ fn eight_at(from: &[u8], at: usize) -> u64
     be_number(&from[at..at + 8])
 }
 
+#[tactic(auto, using(crate::proofs::Telling::first_open))]
 fn is_first(channels: ChannelRecord, i: usize, state: SlotState) -> bool
     requires { i < 8 }
     ensures { Tells result (FirstAt channels i state) }
@@ -208,6 +206,7 @@ fn sound_totals(width: u8, totals: Totals) -> bool
     requires { width ≤ 7 }
     ensures { Tells result (SoundTotals width totals) }
 {
+    // In two steps: the check finds no proof of one conjunction of all six.
     if totals.last >= 1 << (8 * width) || totals.handed_on == 0 {
         return false;
     }
