@@ -6,6 +6,7 @@ ghost use Rattle.uslp_form.specs.Saved.{Converting};
 ghost use Rattle.uslp_kinds.specs.Answers.{paper};
 
 use uslp_form::Form;
+use uslp_kinds::Refusal;
 use uslp_record::ChannelRecord;
 use uslp_saved::{restore, save};
 

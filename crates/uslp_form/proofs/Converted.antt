@@ -75,7 +75,7 @@ module _ (f g : Form) where
         let w = form g d.unheard d.heard in
         omega (arith, d.count, ap length d.left, length-append w (drop (length w) b))
 
-    pub converted_within : (t : List ℕ) (a : Result ℕ Refusal) (n : ℕ) → a ≡ Filled n → Converting f g s b (leaving (paper a) t) → n ≤ length t
+    pub converted_within : (t : List ℕ) (a : Result ℕ Refusal) (n : ℕ) → a ≡ Ok n → Converting f g s b (leaving (paper a) t) → n ≤ length t
     converted_within t a n e h = converting_fits (subst (λ (x : Result ℕ Refusal). Converting f g s b (leaving (paper x) t)) e h)
 
     -- a converting leaves one thing only
@@ -101,7 +101,7 @@ module _ (f g : Form) where
       pub said : RecordSaid g (restored (unheard ++ heard))
       pub room : length (form g unheard heard) ≤ length b
 
-    pub record Ok : Type 0 where
+    pub record Done : Type 0 where
       pub count : ℕ
       pub left : List ℕ
       pub is : Converting f g s b (leaving (done count) left)
@@ -115,10 +115,10 @@ module _ (f g : Form) where
         (saving_done g r b c.said (omega (arith, ap length a, c.room)) ∙ ap (λ (l : List ℕ). leaving (done (length l)) (l ++ drop (length l) b)) a)
         (good c.unheard c.heard c.from)
 
-    pub done_exactly : Ok ↔ Convertible
+    pub done_exactly : Done ↔ Convertible
     done_exactly = (there, λ c. record { count = _; left = _; is = converting_done c })
       where
-        there : Ok → Convertible
+        there : Done → Convertible
         there d =
             let c = converts d.is in
             let us = c.unheard in

@@ -1,7 +1,7 @@
 // The record kept over a restart: saved as octets of either form, and restored from them.
 #![tactic(auto)]
 
-ghost use Rattle.std.specs.Prelude.{◌≡◌};
+ghost use Rattle.std.specs.Prelude.{◌≡◌, Err};
 ghost use Rattle.uslp_kinds.specs.Outcome.{leaving};
 ghost use Rattle.uslp_record.specs.Record.{keeping};
 ghost use Rattle.uslp_form.specs.Saved.{saving, Restoring};
@@ -11,7 +11,7 @@ use columns::unheard_octets;
 use restoring::{all_admitted, flags_fit, has_form, read_all};
 use saving::{empty, put_section, says_all};
 use uslp_form::Form;
-use uslp_kinds::{Refusal};
+use uslp_kinds::Refusal;
 use uslp_octets::copy_octets;
 use uslp_record::{ChannelRecord, Recorded};
 
@@ -43,7 +43,7 @@ pub fn save(channels: ChannelRecord, form: Form, to: &mut [u8]) -> Result<usize,
 }
 
 // The record that octets of this form hold, in place of this one. Refuses BAD_FORM.
-pub fn restore(channels: ChannelRecord, form: Form, from: &[u8]) -> Recorded
+pub fn restore(channels: ChannelRecord, form: Form, from: &[u8]) -> Recorded<()>
     ensures { Restoring form channels from.now (keeping (paper result.answer) result.next) }
 {
     if !has_form(form, from) {
@@ -65,7 +65,7 @@ pub fn restore(channels: ChannelRecord, form: Form, from: &[u8]) -> Recorded
     }
 }
 
-fn bad_form(channels: ChannelRecord) -> Recorded
+fn bad_form(channels: ChannelRecord) -> Recorded<()>
     ensures { result ≡ record { answer = Err Refusal.BadForm; next = channels } }
 {
     Recorded {

@@ -21,7 +21,7 @@ total_is : (f : Form) (s : List ℕ) (n : ℕ) → n ≡ first_count f s * unhea
 total_is f s n e = ap (λ (m : ℕ). get_or s 0 0 + get_or s (1 + m) 0) e
 
 -- the answer and the record of a call that was refused or done
-abbrev Leaves : Form → ChannelRecord → List ℕ → Recorded → Type 0
+abbrev Leaves : Form → ChannelRecord → List ℕ → Recorded (Unit {0}) → Type 0
 Leaves f r s x = Restoring f r s (keeping (paper x.answer) x.next)
 
 -- the record that was read, where each entry of it was judged
