@@ -3,7 +3,6 @@
 
 ghost use Rattle.std.specs.Prelude.{◌≡◌};
 ghost use Rattle.uslp_octets.specs.Octets.{PartOf};
-ghost use Rattle.uslp_kinds.specs.Outcome.{done, and_then};
 ghost use Rattle.uslp_record.specs.Record.{keeping};
 ghost use Rattle.uslp_hearing.specs.Hearing.{channel_of, frame_arrival, hearing_of_frame, frame_hearing, handed_on, handed_at};
 ghost use Rattle.uslp_kinds.specs.Answers.{paper};
@@ -13,7 +12,8 @@ use uslp_primary_header::PrimaryHeader;
 use uslp_reader::TransferFrame;
 use uslp_record::{Arrival, Channel, ChannelRecord, Recorded};
 
-// What hearing a frame finds: NEW, with the frame and how many are missing before it, or nothing to hand on.
+// What hearing a frame finds: NEW, with the frame and how many are missing before it, or nothing to hand on. NEW alone carries the
+// frame, so it is no pair of an arrival and a frame.
 #[derive(Clone, Copy, Debug)]
 pub enum FrameArrival {
     New { gap: u64, frame: TransferFrame },
@@ -31,10 +31,7 @@ pub fn hear(
 {
     match TransferFrame::from_bytes(buf, managed) {
         Ok(frame) => hear_frame(channels, frame),
-        Err(refusal) => Recorded {
-            answer: Err(refusal),
-            next: channels,
-        },
+        Err(refusal) => Recorded::refused(channels, refusal),
     }
 }
 
@@ -49,11 +46,9 @@ pub fn hear_frame(channels: ChannelRecord, frame: TransferFrame) -> Recorded<Fra
         header.vc_frame_count_len,
         header.vc_frame_count,
     );
-    let counted = heard.answer;
-    let next = heard.next;
     Recorded {
-        answer: with_frame(counted, frame),
-        next,
+        answer: heard.answer.map(|arrival| frame_arrival(arrival, frame)),
+        next: heard.next,
     }
 }
 
@@ -62,12 +57,8 @@ pub fn handed_on(answer: Result<FrameArrival, Refusal>, buf: &[u8]) -> &[u8]
     ensures { PartOf buf.entry (handed_at (paper answer) buf.now) (handed_on (paper answer) buf.now) result }
 {
     match answer {
-        Ok(arrival) => match arrival {
-            FrameArrival::New { gap: _, frame } => frame.data(buf),
-            FrameArrival::Repeat => &buf[0..0],
-            FrameArrival::Late => &buf[0..0],
-        },
-        Err(_) => &buf[0..0],
+        Ok(FrameArrival::New { frame, .. }) => frame.data(buf),
+        Ok(FrameArrival::Repeat | FrameArrival::Late) | Err(_) => &buf[0..0],
     }
 }
 
@@ -75,24 +66,10 @@ pub fn handed_on(answer: Result<FrameArrival, Refusal>, buf: &[u8]) -> &[u8]
 pub fn channel_of(header: PrimaryHeader) -> Channel
     ensures { result ≡ channel_of header }
 {
-    let sequence_control_flag = header.sequence_control_flag;
     Channel {
         spacecraft_id: header.spacecraft_id,
         vc_id: header.vc_id,
-        sequence_control_flag,
-    }
-}
-
-// An answer to a count, with the frame that it is of.
-fn with_frame(
-    answer: Result<Arrival, Refusal>,
-    frame: TransferFrame,
-) -> Result<FrameArrival, Refusal>
-    ensures { paper result ≡ and_then (paper answer) (λ a. done (frame_arrival frame a)) }
-{
-    match answer {
-        Ok(arrival) => Ok(frame_arrival(arrival, frame)),
-        Err(refusal) => Err(refusal),
+        sequence_control_flag: header.sequence_control_flag,
     }
 }
 

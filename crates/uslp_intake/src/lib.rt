@@ -10,7 +10,8 @@ use uslp_kinds::{MAX_FRAME_LEN, ManagedParameters, Refusal};
 use uslp_octets::copy_octets;
 use uslp_reader::TransferFrame;
 
-// What a call did with its block: how many octets it took, and how many the holding buffer now holds.
+// What a call did with its block: how many octets it took, and how many the holding buffer now holds. Four ends, and no Result:
+// a caller goes on after three of them, and a stop too says what was taken.
 #[derive(Clone, Copy)]
 pub enum IntakeAnswer {
     // The block is taken whole, and what is held is no frame yet.
@@ -39,13 +40,9 @@ impl IntakeAnswer {
         ensures { result ≡ taken_by (paper_intake self) }
     {
         match self {
-            IntakeAnswer::Waiting { taken, held: _ } => taken,
-            IntakeAnswer::Frame { taken, frame: _ } => taken,
-            IntakeAnswer::Stopped {
-                taken,
-                held: _,
-                refusal: _,
-            } => taken,
+            IntakeAnswer::Waiting { taken, .. }
+            | IntakeAnswer::Frame { taken, .. }
+            | IntakeAnswer::Stopped { taken, .. } => taken,
             IntakeAnswer::Refused(_) => 0,
         }
     }
@@ -55,13 +52,8 @@ impl IntakeAnswer {
         ensures { result ≡ held_by before (paper_intake self) }
     {
         match self {
-            IntakeAnswer::Waiting { taken: _, held } => held,
-            IntakeAnswer::Frame { taken: _, frame: _ } => 0,
-            IntakeAnswer::Stopped {
-                taken: _,
-                held,
-                refusal: _,
-            } => held,
+            IntakeAnswer::Waiting { held, .. } | IntakeAnswer::Stopped { held, .. } => held,
+            IntakeAnswer::Frame { .. } => 0,
             IntakeAnswer::Refused(_) => before,
         }
     }
@@ -69,6 +61,7 @@ impl IntakeAnswer {
 
 // Takes octets of the block behind those held, up to the one that decides; what is left of the block is to be offered again.
 // Refuses BAD_FIELD for a held number above MAX_FRAME_LEN, then SHORT_TARGET for a holding buffer below it.
+// The held number stands beside the buffer, since the memory is the caller's and fixed, and both are refused by a rule.
 #[tactic(auto, unfolding(crate::specs::Intake::intaking))]
 pub fn take_block(
     holding: &mut [u8],
