@@ -24,5 +24,7 @@ chain true true c = refl
 
 pub equal_is : (a b : Channel) → derived.ghosts.eq a b ≡ same_channel a b
 equal_is a b =
-    rw (bypass_is a.sequence_control_flag b.sequence_control_flag)
-    (chain (eqb a.spacecraft_id b.spacecraft_id) (eqb a.vc_id b.vc_id) (eqb (bypass_number a.sequence_control_flag) (bypass_number b.sequence_control_flag)))
+    let flags = bypass_is a.sequence_control_flag b.sequence_control_flag in
+    rw flags
+    (chain (eqb a.spacecraft_id b.spacecraft_id) (eqb a.vc_id b.vc_id)
+    (eqb (bypass_number a.sequence_control_flag) (bypass_number b.sequence_control_flag)))

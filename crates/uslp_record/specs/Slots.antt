@@ -50,15 +50,14 @@ slot_of t = record { state = t }
 abbrev pub state_at : ChannelRecord → ℕ → SlotState
 state_at r i = (slice_index_or r.slots i (slot_of Closed)).state
 
--- the first slot whose state passes a test, or none, by what the test says of each state
-unfoldable pub FoundFirst : (SlotState → Bool → Type 0) → List Slot → Option ℕ → Type 0
-FoundFirst Says l (Some i) =
-    (i < 8) × Says (slice_index_or l i (slot_of Closed)).state true × ((j : ℕ) → j < i → Says (slice_index_or l j (slot_of Closed)).state false)
-FoundFirst Says l None = (j : ℕ) → j < 8 → Says (slice_index_or l j (slot_of Closed)).state false
-
 -- the record with another state in a slot
 abbrev pub put : ChannelRecord → ℕ → SlotState → ChannelRecord
 put r i t = record { slots = slice_set r.slots i (slot_of t) }
+
+-- the first slot whose state passes a test, or none, by what the test says of each state
+unfoldable pub FoundFirst : (SlotState → Bool → Type 0) → ChannelRecord → Option ℕ → Type 0
+FoundFirst Says r (Some i) = (i < 8) × Says (state_at r i) true × ((j : ℕ) → j < i → Says (state_at r j) false)
+FoundFirst Says r None = (j : ℕ) → j < 8 → Says (state_at r j) false
 
 -- a slot, and the state that it is to get
 pub record Change : Type 0 where

@@ -1,14 +1,15 @@
 // The channel record on numbers: eight slots by value, and what each call makes of them.
 #![tactic(auto)]
 
-ghost use Rattle.std.specs.Prelude.{◌≡◌, ◌<◌};
-ghost use Rattle.uslp_record.specs.Slots.{state_holds, state_closed, find, slot_found, FoundFirst, vacant, put, empty_record};
-ghost use Rattle.uslp_record.specs.Record.{keeping, missing_of, opening, closing, console_total, showing};
+ghost use Rattle.std.specs.Prelude.{◌≡◌};
+ghost use Rattle.uslp_record.specs.Slots.{empty_record};
+ghost use Rattle.uslp_record.specs.Record.{keeping, opening, closing, console_total, showing};
 ghost use Rattle.uslp_kinds.specs.Answers.{paper};
 
 use uslp_kinds::{BypassSequenceControlFlag, MAX_COUNT_LEN, MAX_VC_ID, Refusal};
 
 mod counting;
+mod searching;
 
 // How many channels a record holds.
 pub const SLOTS: usize = 8;
@@ -90,11 +91,9 @@ impl ChannelRecord {
     pub fn new() -> ChannelRecord
         ensures { result ≡ empty_record }
     {
-        let slot = Slot {
-            state: SlotState::Closed,
-        };
+        let state = SlotState::Closed;
         ChannelRecord {
-            slots: [slot; SLOTS],
+            slots: [Slot { state }; SLOTS],
         }
     }
 
@@ -103,13 +102,7 @@ impl ChannelRecord {
     pub fn open_channel(self, channel: Channel, width: u8) -> Recorded<()>
         ensures { keeping (paper result.answer) result.next ≡ opening self channel width }
     {
-        if channel.vc_id > MAX_VC_ID {
-            return Recorded::refused(self, Refusal::BadField);
-        }
-        if width == 0 {
-            return Recorded::refused(self, Refusal::BadField);
-        }
-        if width > MAX_COUNT_LEN {
+        if channel.vc_id > MAX_VC_ID || width == 0 || width > MAX_COUNT_LEN {
             return Recorded::refused(self, Refusal::BadField);
         }
         if self.search(channel).is_some() {
@@ -121,7 +114,7 @@ impl ChannelRecord {
         let state = SlotState::Opened { channel, width };
         Recorded {
             answer: Ok(()),
-            next: changed(self, at, state),
+            next: self.with_state(at, state),
         }
     }
 
@@ -133,10 +126,9 @@ impl ChannelRecord {
         let Some(at) = self.search(channel) else {
             return Recorded::refused(self, Refusal::NotOpen);
         };
-        let state = SlotState::Closed;
         Recorded {
             answer: Ok(()),
-            next: changed(self, at, state),
+            next: self.with_state(at, SlotState::Closed),
         }
     }
 
@@ -149,103 +141,18 @@ impl ChannelRecord {
         Ok(self.slots[at].state)
     }
 
-    // The first slot that holds the channel.
-    pub fn search(self, channel: Channel) -> Option<usize>
-        ensures { result ≡ slot_found (find channel self.slots) }
-    {
-        self.first_that(|state| state.holds(channel))
-    }
-
-    // The first closed slot.
-    fn first_closed(self) -> Option<usize>
-        ensures { result ≡ slot_found (vacant self.slots) }
-    {
-        self.first_that(|state| state.is_closed())
-    }
-
-    // The first slot whose state passes the test. It counts its index, since a search is a loop that gives the slot number by break.
-    #[tactic(auto, unfolding(crate::specs::Slots::FoundFirst))]
-    fn first_that<F: Fn(SlotState) -> bool>(self, test: F) -> Option<usize>
-        requires { F.IsAlwaysCallable test }
-        ensures { FoundFirst (F.post test) self.slots result }
-    {
-        let mut i: usize = 0;
-        let at = loop {
-            if i >= SLOTS {
-                break None;
-            }
-            if test(self.slots[i].state) {
-                break Some(i);
-            }
-            i += 1;
-        };
-        at
-    }
-
     // The sum of missing over open channels. Refuses TOTAL_FULL.
     pub fn total_missing(self) -> Result<u64, Refusal>
         ensures { paper result ≡ console_total self }
     {
-        let slots = self.slots;
         let mut sum: u64 = 0;
-        let mut i: usize = 0;
-        while i < SLOTS {
-            let slot = slots[i];
-            let state = slot.state;
-            let missing = missing_of(state);
+        for slot in self.slots {
+            let missing = slot.state.missing();
             if missing > MOST {
                 return Err(Refusal::TotalFull);
             }
             sum += missing;
-            i += 1;
         }
         Ok(sum)
-    }
-}
-
-// The record with another state in a slot.
-fn changed(channels: ChannelRecord, at: usize, state: SlotState) -> ChannelRecord
-    requires { at < 8 }
-    ensures { result ≡ put channels at state }
-{
-    let mut next = channels;
-    next.slots[at] = Slot { state };
-    next
-}
-
-impl SlotState {
-    #[tactic(auto, using(crate::proofs::Equality::equal_is))]
-    fn holds(self, channel: Channel) -> bool
-        ensures { result ≡ state_holds channel self }
-    {
-        match self {
-            SlotState::Closed => false,
-            SlotState::Opened { channel: own, .. } | SlotState::Heard { channel: own, .. } => {
-                own == channel
-            }
-        }
-    }
-
-    fn is_closed(self) -> bool
-        ensures { result ≡ state_closed self }
-    {
-        matches!(self, SlotState::Closed)
-    }
-}
-
-fn missing_of(state: SlotState) -> u64
-    ensures { result ≡ missing_of state }
-{
-    match state {
-        SlotState::Closed => 0,
-        SlotState::Opened {
-            channel: _,
-            width: _,
-        } => 0,
-        SlotState::Heard {
-            channel: _,
-            width: _,
-            totals,
-        } => totals.missing,
     }
 }
