@@ -1,4 +1,3 @@
-pub mod ByForm
 pub mod Known
 pub mod Fields
 pub mod Flags

@@ -1,21 +1,23 @@
 // The record kept over a restart: saved as octets of either form, and restored from them.
 #![tactic(auto)]
 
-ghost use Rattle.std.specs.Prelude.{◌≡◌, Err};
+ghost use Rattle.std.specs.Prelude.{◌≡◌};
 ghost use Rattle.uslp_kinds.specs.Outcome.{leaving};
 ghost use Rattle.uslp_record.specs.Record.{keeping};
 ghost use Rattle.uslp_form.specs.Saved.{saving, Restoring};
 ghost use Rattle.uslp_kinds.specs.Answers.{paper};
 
-use columns::unheard_octets;
-use restoring::{all_admitted, flags_fit, has_form, read_all};
-use saving::{empty, put_section, says_all};
+use columns::Section;
+use out::Out;
+use restoring::Octets;
+use saving::{put_section, says_all};
 use uslp_form::Form;
 use uslp_kinds::Refusal;
 use uslp_octets::copy_octets;
 use uslp_record::{ChannelRecord, Recorded};
 
 mod columns;
+mod out;
 mod restoring;
 mod saving;
 
@@ -30,15 +32,16 @@ pub fn save(channels: ChannelRecord, form: Form, to: &mut [u8]) -> Result<usize,
     if !says_all(slots, form) {
         return Err(Refusal::LacksFlag);
     }
-    let unheard = put_section(empty(), slots, form, false);
-    let out = put_section(unheard, slots, form, true);
-    let filled = out.octets;
+    let mut out = Out::new();
+    put_section(&mut out, slots, form, Section::Unheard);
+    put_section(&mut out, slots, form, Section::Heard);
+    let octets = out.as_slice();
     let found = to.len();
-    let expected = out.len;
+    let expected = octets.len();
     if found < expected {
         return Err(Refusal::ShortTarget { found, expected });
     }
-    copy_octets(&filled[0..expected], to);
+    copy_octets(octets, to);
     Ok(expected)
 }
 
@@ -46,30 +49,18 @@ pub fn save(channels: ChannelRecord, form: Form, to: &mut [u8]) -> Result<usize,
 pub fn restore(channels: ChannelRecord, form: Form, from: &[u8]) -> Recorded<()>
     ensures { Restoring form channels from.now (keeping (paper result.answer) result.next) }
 {
-    if !has_form(form, from) {
-        return bad_form(channels);
+    let Some(octets) = Octets::shaped(form, from) else {
+        return Recorded::refused(channels, Refusal::BadForm);
+    };
+    if !octets.flags_fit() {
+        return Recorded::refused(channels, Refusal::BadForm);
     }
-    let unheard = from[0] as usize;
-    let second = 1 + unheard_octets(form, unheard);
-    let total = unheard + from[second] as usize;
-    if !flags_fit(form, from, unheard, total) {
-        return bad_form(channels);
-    }
-    let next = read_all(form, from, unheard, total);
-    if !all_admitted(next, form, unheard, total) {
-        return bad_form(channels);
+    let next = octets.read_all();
+    if !octets.admits(next) {
+        return Recorded::refused(channels, Refusal::BadForm);
     }
     Recorded {
         answer: Ok(()),
         next,
-    }
-}
-
-fn bad_form(channels: ChannelRecord) -> Recorded<()>
-    ensures { result ≡ record { answer = Err Refusal.BadForm; next = channels } }
-{
-    Recorded {
-        answer: Err(Refusal::BadForm),
-        next: channels,
     }
 }
