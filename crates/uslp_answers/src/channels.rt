@@ -1,6 +1,6 @@
 // The answers about channels.
 use crate::say;
-use crate::shown::Shown;
+use crate::values::Shown;
 use std::fmt::Display;
 use std::io::Write;
 use std::{fmt, io};

@@ -1,5 +1,5 @@
 // The commands that write: hw, fw, rw, save, save2, up, down.
-use crate::shown::Shown;
+use crate::values::Shown;
 use std::io;
 use std::io::Write;
 use uslp_form::Form;

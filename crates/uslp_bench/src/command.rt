@@ -1,7 +1,7 @@
 // The commands, and the words of each.
 use crate::words::{Fault, Words};
 use std::alloc::Allocator;
-use uslp_answers::octet_of;
+use uslp_answers::values::octet_of;
 use uslp_data_field_header::TransferFrameDataFieldHeader;
 use uslp_form::Form;
 use uslp_kinds::{
@@ -14,6 +14,22 @@ use uslp_writer::TransferFrameCreator;
 
 #[derive(Drop)]
 pub(crate) enum Command<A: Allocator> {
+    Frame(FrameCommand<A>),
+    Open(Channel, u8),
+    Close(Channel),
+    Show(Channel),
+    Total,
+    Save(Form, usize),
+    Restore(Form, Vec<u8, A>),
+    Hear(ManagedParameters, Vec<u8, A>),
+    Many(ManagedParameters, Vec<u8, A>),
+    Feed(ManagedParameters, Vec<u8, A>),
+    DropHeld,
+}
+
+// The commands that keep nothing.
+#[derive(Drop)]
+pub(crate) enum FrameCommand<A: Allocator> {
     Checksum(Vec<u8, A>),
     ReadHeader(Vec<u8, A>),
     ReadFieldHeader(Vec<u8, A>),
@@ -23,41 +39,28 @@ pub(crate) enum Command<A: Allocator> {
         total: usize,
         buf_len: usize,
     },
-    WriteFrame {
-        frame: TransferFrameCreator,
-        buf_len: usize,
-        data: Vec<u8, A>,
-        reserved: bool,
-    },
+    WriteFrame(FrameToWrite<A>),
+    Reserve(FrameToWrite<A>),
     Convert {
         was: Form,
         becomes: Form,
         buf_len: usize,
         octets: Vec<u8, A>,
     },
-    Open(Channel, u8),
-    Close(Channel),
-    Hear(ManagedParameters, Vec<u8, A>),
-    Many(ManagedParameters, Vec<u8, A>),
-    Show(Channel),
-    Total,
-    Save(Form, usize),
-    Restore(Form, Vec<u8, A>),
-    Feed(ManagedParameters, Vec<u8, A>),
-    DropHeld,
+}
+
+#[derive(Drop)]
+pub(crate) struct FrameToWrite<A: Allocator> {
+    pub(crate) frame: TransferFrameCreator,
+    pub(crate) buf_len: usize,
+    pub(crate) data: Vec<u8, A>,
 }
 
 // The command that a line calls. The first word that does not fit is told.
 pub(crate) fn command_in<R: Alloc>(rt: &R, line: &[u8]) -> Result<Command<R::A>, Fault> {
     let mut words = Words::new(line);
-    let command = match words.word() {
-        b"crc" => Command::Checksum(words.octets(rt)?),
-        b"hr" => Command::ReadHeader(words.octets(rt)?),
-        b"dr" => Command::ReadFieldHeader(words.octets(rt)?),
-        b"fr" => Command::ReadFrame(words.managed()?, words.octets(rt)?),
-        b"hw" => write_header(&mut words)?,
-        b"fw" => write_frame(rt, &mut words, false)?,
-        b"rw" => write_frame(rt, &mut words, true)?,
+    let name = words.word();
+    let command = match name {
         b"open" => Command::Open(channel(&mut words)?, octet_of(words.number("width")?)),
         b"close" => Command::Close(channel(&mut words)?),
         b"hear" => Command::Hear(words.managed()?, words.octets(rt)?),
@@ -70,12 +73,29 @@ pub(crate) fn command_in<R: Alloc>(rt: &R, line: &[u8]) -> Result<Command<R::A>,
         b"drop" => Command::DropHeld,
         b"save2" => Command::Save(Form::Two, words.buf_len()?),
         b"restore2" => Command::Restore(Form::Two, words.octets(rt)?),
-        b"up" => convert(rt, &mut words, Form::One, Form::Two)?,
-        b"down" => convert(rt, &mut words, Form::Two, Form::One)?,
-        _ => return Err(Fault::BadWord("command")),
+        _ => Command::Frame(frame_command(rt, name, &mut words)?),
     };
     words.end()?;
     Ok(command)
+}
+
+fn frame_command<R: Alloc>(
+    rt: &R,
+    name: &[u8],
+    words: &mut Words,
+) -> Result<FrameCommand<R::A>, Fault> {
+    Ok(match name {
+        b"crc" => FrameCommand::Checksum(words.octets(rt)?),
+        b"hr" => FrameCommand::ReadHeader(words.octets(rt)?),
+        b"dr" => FrameCommand::ReadFieldHeader(words.octets(rt)?),
+        b"fr" => FrameCommand::ReadFrame(words.managed()?, words.octets(rt)?),
+        b"hw" => header_to_write(words)?,
+        b"fw" => FrameCommand::WriteFrame(frame_to_write(rt, words)?),
+        b"rw" => FrameCommand::Reserve(frame_to_write(rt, words)?),
+        b"up" => to_convert(rt, words, Form::One, Form::Two)?,
+        b"down" => to_convert(rt, words, Form::Two, Form::One)?,
+        _ => return Err(Fault::BadWord("command")),
+    })
 }
 
 fn channel(words: &mut Words) -> Result<Channel, Fault> {
@@ -118,12 +138,12 @@ fn behind_place(words: &mut Words, place: PrimaryHeader) -> Result<PrimaryHeader
     })
 }
 
-fn write_header<A: Allocator>(words: &mut Words) -> Result<Command<A>, Fault> {
+fn header_to_write<A: Allocator>(words: &mut Words) -> Result<FrameCommand<A>, Fault> {
     let place = place(words)?;
     let total = words.number("total")?;
     let header = behind_place(words, place)?;
     let buf_len = words.buf_len()?;
-    Ok(Command::WriteHeader {
+    Ok(FrameCommand::WriteHeader {
         header,
         total,
         buf_len,
@@ -131,11 +151,7 @@ fn write_header<A: Allocator>(words: &mut Words) -> Result<Command<A>, Fault> {
 }
 
 // A rule or a protocol id that no frame has is told after all words are read.
-fn write_frame<R: Alloc>(
-    rt: &R,
-    words: &mut Words,
-    reserved: bool,
-) -> Result<Command<R::A>, Fault> {
+fn frame_to_write<R: Alloc>(rt: &R, words: &mut Words) -> Result<FrameToWrite<R::A>, Fault> {
     let place = place(words)?;
     let primary_header = behind_place(words, place)?;
     let rule = octet_of(words.number("rule")?);
@@ -163,21 +179,20 @@ fn write_frame<R: Alloc>(
         operational_control_field,
         has_fecf,
     };
-    Ok(Command::WriteFrame {
+    Ok(FrameToWrite {
         frame,
         buf_len,
         data,
-        reserved,
     })
 }
 
-fn convert<R: Alloc>(
+fn to_convert<R: Alloc>(
     rt: &R,
     words: &mut Words,
     was: Form,
     becomes: Form,
-) -> Result<Command<R::A>, Fault> {
-    Ok(Command::Convert {
+) -> Result<FrameCommand<R::A>, Fault> {
+    Ok(FrameCommand::Convert {
         was,
         becomes,
         buf_len: words.buf_len()?,

@@ -7,7 +7,7 @@ ghost use Rattle.uslp_intake_answers.specs.Fed.{fed};
 
 use std::io;
 use std::io::Write;
-use uslp_answers::shown::Shown;
+use uslp_answers::values::Shown;
 use uslp_intake::{IntakeAnswer, take_block};
 use uslp_kinds::ManagedParameters;
 

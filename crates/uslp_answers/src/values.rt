@@ -1,9 +1,18 @@
-// Values as the bench shows them.
+// Values, as words say them and as the bench shows them.
+ghost use Rattle.std.specs.Prelude.{◌≤◌, ◌<◌, ◌≡◌};
+
 use std::fmt;
 use std::fmt::Display;
 use uslp_data_field_header::TransferFrameDataFieldHeader;
 use uslp_kinds::Refusal;
 use uslp_primary_header::PrimaryHeader;
+
+// A channel, map or width that fits no octet is told as one that the library refuses.
+pub fn octet_of(value: u64) -> u8
+    ensures { (value ≤ 255 → result ≡ value) × (255 < value → result ≡ 255) }
+{
+    u8::try_from(value).unwrap_or(255)
+}
 
 // Octets are shown in hex, a refusal by its number and what it carries, and what is not there as a dash.
 #[derive(Drop)]
