@@ -35,7 +35,8 @@ impl SlotState {
 }
 
 impl ChannelRecord {
-    // The first slot that holds the channel.
+    // The first slot that holds the channel. A call that takes it in copies the record word by word, which is slower.
+    #[inline(never)]
     pub fn search(self, channel: Channel) -> Option<usize>
         ensures { result ≡ slot_found (find channel self.slots) }
     {
@@ -51,9 +52,9 @@ impl ChannelRecord {
 
     // The first slot whose state passes the test. It counts its index, since a search is a loop that gives the slot number by break.
     #[tactic(auto, unfolding(crate::specs::Slots::FoundFirst))]
-    fn first_that<F: Fn(SlotState) -> bool>(self, test: F) -> Option<usize>
+    fn first_that<F: Fn(SlotState) -> bool>(&self, test: F) -> Option<usize>
         requires { F.IsAlwaysCallable test }
-        ensures { FoundFirst (F.post test) self result }
+        ensures { FoundFirst (F.post test) self.now result }
     {
         let mut i: usize = 0;
         loop {

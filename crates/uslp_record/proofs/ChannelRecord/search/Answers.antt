@@ -6,5 +6,4 @@ use Rattle.uslp_record.proofs.ChannelRecord.search.Goals as goal
 
 pub returns : goal.returns
 returns c =
-    let k = c.args.channel in
-    found_first (holds k) (find k) (finds k) _ c.args.self c.well_formed.0 _ c.first_that.ensures (λ x b e. search rules)
+    found_first (holds c.args.channel) (find c.args.channel) (finds c.args.channel) _ c.args.self c.well_formed.0 _ c.first_that.ensures (λ x b e. search rules)
