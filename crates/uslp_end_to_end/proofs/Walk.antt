@@ -1,11 +1,11 @@
 -- The loop over the frames: what holds at a place, and how a frame, a refusal and the end carry it on.
-use mathlib.Core.Path.{◌≡◌, refl, ap, sym, ◌∙◌, subst}
+use mathlib.Core.Path.{◌≡◌, refl, ap, sym, ◌∙◌}
 use Prim.Native.Nat.{ℕ, ◌+◌, ◌-◌, ◌^◌, ◌<◌, ◌≤◌}
 use mathlib.Core.Bool.{Bool, true, false, cond}
 use mathlib.Core.List.{List, [], ◌∷◌}
 use native.Mathlib.Omega.{arith}
 use lib.Dec.{eqb}
-use lib.ListN.{length, take, drop, get_or, set, length-set, length-drop, drop_of_length-le}
+use lib.ListN.{length, take, drop, set, length-set, length-drop, drop_of_length-le}
 use lib.Seq.{drop-drop}
 use Rattle.uslp_kinds.specs.Outcome.{Outcome, done, refused, and_then}
 use Rattle.uslp_kinds.specs.declared.ManagedParameters.{ManagedParameters}
@@ -18,7 +18,7 @@ use Rattle.uslp_reader.proofs.EndToEnd.{frame_eight, onto, nothing, cut_refused,
 use Rattle.uslp_octets.specs.Octets.{AreOctets}
 use native.Mathlib.Decide.{dec_lt}
 use Rattle.uslp_record.specs.Slots.{find, slot_of, state_at}
-use Rattle.uslp_record.specs.Record.{Kept, keeping, applied, most}
+use Rattle.uslp_record.specs.Record.{keeping, applied, most}
 use Rattle.uslp_record.specs.Judging.{judging, count_hearing, slot_judging}
 use Rattle.uslp_record.specs.declared.Slot.{Slot}
 use Rattle.uslp_record.specs.declared.SlotState.TheVariants.{Closed}
@@ -29,7 +29,7 @@ use Rattle.uslp_record.proofs.Hears.{judging_none, judging_slot, changing}
 use Rattle.uslp_record.proofs.Sums.{up_to_in, slots_most, slots_set, gap_of, slot_gap, slot_gap_fits}
 use Rattle.uslp_record.proofs.Back.{keeping_one}
 use Rattle.uslp_hearing.proofs.Heard.{heard_with}
-use Rattle.uslp_hearing.specs.Hearing.{channel_of, frame_arrival, with_frame, judged_by, frame_hearing}
+use Rattle.uslp_hearing.specs.Hearing.{channel_of, frame_arrival, judged_by, frame_hearing}
 use Rattle.uslp_hearing.specs.declared.FrameArrival.{FrameArrival}
 use Rattle.uslp_hearing.specs.declared.FrameArrival.TheVariants.{New, Repeat, Late}
 use Rattle.uslp_hearing.proofs.Ways.{channel, width, count, read_narrow, read_fits}
@@ -79,7 +79,8 @@ module _ (x : TransferFrame) (r : ChannelRecord) (long : length r.slots ≡ 8) {
       let same : up_to_in q.slots ≡ up_to_in r.slots = ap (λ (v : ChannelRecord). up_to_in v.slots) d.1 in
       record { eight = ap (λ (v : ChannelRecord). length v.slots) d.1 ∙ long; fits = omega arith; more = omega arith }
 
-  counted_slot : (i : ℕ) → i < 8 → (v : Outcome (Arrival × Slot)) → slot_judging (slot_of (state_at r i)) (channel x) (width x) (count x) ≡ v
+  counted_slot : (i : ℕ) → i < 8 → (v : Outcome (Arrival × Slot))
+      → slot_judging (slot_of (state_at r i)) (channel x) (width x) (count x) ≡ v
       → keeping o q ≡ applied r (changing i v) → Counted r q o
   counted_slot i there (refused k vs) is e = counted_refused e
   counted_slot i there (done y) is e =
@@ -89,7 +90,11 @@ module _ (x : TransferFrame) (r : ChannelRecord) (long : length r.slots ≡ 8) {
       let gap = slot_gap (slot_of (state_at r i)) (channel x) (width x) (count x) is in
       let fit = slot_gap_fits (slot_of (state_at r i)) (channel x) (width x) (count x) is in
       let more = slots_set r.slots i y.1 (slot_of Closed) (omega (arith, long)) in
-      record { eight = ap (λ (v : ChannelRecord). length v.slots) d.1 ∙ length-set r.slots i y.1 ∙ long; fits = omega arith; more = omega arith }
+      record {
+        eight = ap (λ (v : ChannelRecord). length v.slots) d.1 ∙ length-set r.slots i y.1 ∙ long;
+        fits = omega arith;
+        more = omega arith;
+      }
 
   pub counted : (managed : ManagedParameters) (s : List ℕ) → AreOctets s → frame_reading s managed ≡ done x
       → keeping o q ≡ count_hearing r (channel x) (width x) (count x) → Counted r q o
@@ -105,7 +110,8 @@ module _ (x : TransferFrame) (r : ChannelRecord) (long : length r.slots ≡ 8) {
       go (no out) =
           counted_refused
           (e ∙ ap (applied r)
-          (judging_none r (channel x) (width x) (count x) i refl (read_narrow s managed x read) (read_fits s managed x oct read) (omega arith)))
+          (judging_none r (channel x) (width x) (count x) i refl (read_narrow s managed x read)
+          (read_fits s managed x oct read) (omega arith)))
 
 -- a hearing of the octets s takes the tally t and the record r to u and q
 pub record Stepped (managed : ManagedParameters) (s : List ℕ) (t : Tally) (r : ChannelRecord) (u : Tally) (q : ChannelRecord) : Type 0 where
@@ -117,7 +123,8 @@ pub record Stepped (managed : ManagedParameters) (s : List ℕ) (t : Tally) (r :
 -- by what hearing its count answered, and what that answer adds to the tally
 pub stepped : (managed : ManagedParameters) (s : List ℕ) (x : TransferFrame) → frame_reading s managed ≡ done x
     → (t : Tally) {u : Tally} (r : ChannelRecord) {q : ChannelRecord} {o : Outcome Arrival}
-    → keeping o q ≡ count_hearing r (channel x) (width x) (count x) → Counted r q o → u ≡ plus t (tally_of (of_arrival x o)) → Stepped managed s t r u q
+    → keeping o q ≡ count_hearing r (channel x) (width x) (count x) → Counted r q o → u ≡ plus t (tally_of (of_arrival x o))
+    → Stepped managed s t r u q
 stepped managed s x read t {u} r {q} {o} e c is = record {
   is =
       ap (λ (v : Outcome TransferFrame). added_to t (applied r (and_then v (judged_by channel_of r)))) read
@@ -197,14 +204,6 @@ pub record Heard (managed : ManagedParameters) (s : List ℕ) (r₀ r : ChannelR
   pub eight : length r.slots ≡ 8
   pub few : total t ≤ place
   pub sum : t.missing ≤ up_to_in r.slots
-
-pub heard_nothing : (managed : ManagedParameters) (s : List ℕ) (r : ChannelRecord) {t : Tally} → length r.slots ≡ 8 → t ≡ no_frames → Heard managed s r r t 0
-heard_nothing managed s r {t} long e = record {
-  goes = subst (λ (v : Tally). Goes managed s r r v 0) (sym e) (goes_nothing managed s r);
-  eight = long;
-  few = omega (arith, ap total e);
-  sum = omega (arith, ap (λ (v : Tally). v.missing) e);
-}
 
 module _ {managed : ManagedParameters} {s : List ℕ} {r₀ r : ChannelRecord} {t : Tally} {place : ℕ} (h : Heard managed s r₀ r t place) where
   pub heard_small : place + 1 < 2 ^ 64 → Small t

@@ -29,7 +29,7 @@ pub struct Tally {
     pub total_full: u64,
 }
 
-// What the call comes to: the place reached, the tally of the frames before it, and the record after them. `stop` is DONE
+// What the call comes to: the place reached, the tally of the frames before it, and the record after them. `stop` is Ok
 // where the octets are used up, else the reader's refusal of what is left.
 #[derive(Clone, Copy, Debug)]
 pub struct ManyHearing {
@@ -82,8 +82,11 @@ fn hear_in(channels: &mut ChannelRecord, header: PrimaryHeader) -> Result<Arriva
     let Some(at) = channels.search(channel) else {
         return Err(Refusal::NotOpen);
     };
-    let (arrival, slot) =
-        channels.slots[at].judge_count(channel, header.vc_frame_count_len, header.vc_frame_count)?;
+    let (arrival, slot) = channels.slots[at].judge_count(
+        channel,
+        header.vc_frame_count_len,
+        header.vc_frame_count,
+    )?;
     channels.slots[at] = slot;
     Ok(arrival)
 }
@@ -92,7 +95,8 @@ impl Tally {
     // Counts what a frame was to its channel, or why it was passed over.
     fn count(&mut self, answer: Result<Arrival, Refusal>)
         requires { Small self.old × ((gap : ℕ) → answer ≡ Ok (Arrival.New gap) → gap < 2 ^ 60) }
-        ensures { (x : TransferFrame) → self.exit.now ≡ plus self.entry.now (tally_of (and_then (paper answer) (λ a. done (frame_arrival x a)))) }
+        ensures { (x : TransferFrame)
+            → self.exit.now ≡ plus self.entry.now (tally_of (and_then (paper answer) (λ a. done (frame_arrival x a)))) }
     {
         match answer {
             Ok(Arrival::New(gap)) => {

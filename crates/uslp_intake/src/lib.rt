@@ -1,7 +1,7 @@
 // The intake: octets come in blocks, cut anywhere, and frames go out as they become whole.
 #![tactic(auto)]
 
-ghost use Rattle.std.specs.Prelude.{◌≡◌, ◌+◌, ◌≤◌, length, drop};
+ghost use Rattle.std.specs.Prelude.{◌≡◌, ◌+◌, ◌≤◌, length};
 ghost use Rattle.std.proofs.Math.Seq.{paste};
 ghost use Rattle.uslp_kinds.specs.Outcome.{leaving};
 ghost use Rattle.uslp_intake.specs.Intake.{paper_intake, taken_by, held_by, intaking};
@@ -12,7 +12,7 @@ use uslp_reader::TransferFrame;
 
 // What a call did with its block: how many octets it took, and how many the holding buffer now holds. Four ends, and no Result:
 // a caller goes on after three of them, and a stop too says what was taken.
-#[derive(Clone, Copy)]
+#[derive(Clone, Copy, Debug)]
 pub enum IntakeAnswer {
     // The block is taken whole, and what is held is no frame yet.
     Waiting {
@@ -97,7 +97,7 @@ fn take_wanted(
     let mut taken: usize = 0;
     loop {
         let end = held + taken;
-        match TransferFrame::from_bytes(&holding[0..end], managed) {
+        match TransferFrame::from_bytes(&holding[..end], managed) {
             Ok(frame) => {
                 return IntakeAnswer::Frame { taken, frame };
             }
@@ -110,27 +110,26 @@ fn take_wanted(
                         refusal,
                     };
                 }
-                let rest = block.len() - taken;
-                if rest < wanted {
-                    hold(holding, end, block, taken, rest);
+                let rest = &block[taken..];
+                if rest.len() < wanted {
+                    hold(holding, end, rest);
                     return IntakeAnswer::Waiting {
-                        taken: taken + rest,
-                        held: end + rest,
+                        taken: taken + rest.len(),
+                        held: end + rest.len(),
                     };
                 }
-                hold(holding, end, block, taken, wanted);
+                hold(holding, end, &rest[..wanted]);
                 taken += wanted;
             }
         }
     }
 }
 
-// Copies n octets of the block from a place on into the holding buffer, from a place on.
-fn hold(holding: &mut [u8], at: usize, block: &[u8], from: usize, n: usize)
-    requires { (at + n ≤ length holding.old) × (from + n ≤ length block.now) }
-    ensures { holding.new ≡ paste holding.old at (drop from block.now) n }
+// Copies octets into the holding buffer, from a place on.
+fn hold(holding: &mut [u8], at: usize, octets: &[u8])
+    requires { at + length octets.now ≤ length holding.old }
+    ensures { holding.new ≡ paste holding.old at octets.now (length octets.now) }
 {
-    let end = at + n;
-    let past = from + n;
-    copy_octets(&block[from..past], &mut holding[at..end]);
+    let end = at + octets.len();
+    copy_octets(octets, &mut holding[at..end]);
 }

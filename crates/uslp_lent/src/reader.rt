@@ -12,7 +12,7 @@ use uslp_primary_header::PrimaryHeader;
 use uslp_reader::{TransferFrame, data_of};
 
 // Stands on a refusal too, so that it shows the octets that it was given: `found` says which it is.
-#[derive(Clone, Copy)]
+#[derive(Clone, Copy, Debug)]
 pub struct TransferFrameReader<'a> {
     pub raw: &'a [u8],
     pub found: Result<TransferFrame, Refusal>,

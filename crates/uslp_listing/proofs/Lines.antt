@@ -1,5 +1,5 @@
 -- What the definitions of the listing say, path by path, and how long its lines are.
-use mathlib.Core.Path.{◌≡◌, refl, ap, ap₂, sym, ◌∙◌}
+use mathlib.Core.Path.{◌≡◌, refl, ap, ap₂, sym, subst, ◌∙◌}
 use Prim.Native.Nat.{ℕ, suc, ◌+◌, ◌-◌, ◌^◌, ◌<◌, ◌≤◌}
 use mathlib.Core.Bool.{Bool, cond}
 use mathlib.Core.List.{List, [], ◌∷◌, ◌++◌, append_assoc}
@@ -136,6 +136,12 @@ module _ (s t : List ℕ) where
   over_done h is fits p =
       let w = told_whole (omega arith) p in
       simp (le-ltb (length t) room h, is) (ap₂ (λ (n : ℕ) (x : List ℕ). leaving (done n) x) w.0 w.1)
+
+  -- the same where the text stands on a page over that buffer, which the page leaves to its lender
+  pub over_put : {end : ℕ} {text now left : List ℕ} → room ≤ length t → listing s ≡ text → length text ≤ room
+      → Told text 0 t end now → now ≡ left
+      → leaving (done end) left ≡ listing_over s t
+  over_put {end} {text} h is fits p e = over_done h is fits (subst (λ (x : List ℕ). Told text 0 t end x) e p)
 
   -- a text that was written lies in the buffer
   pub over_inside : {end : ℕ} {left : List ℕ} → leaving (done end) left ≡ listing_over s t → end ≤ length left

@@ -44,12 +44,14 @@ loop-place-preserved c =
     let there = are_drop l.place c.args.buf.now (λ i. omega (arith, c.type_inv.buf i)) in
     let read = answered c.args.buf.now l.place c.args.managed c.from_bytes.ensures c.in-Ok.is in
     heard_more l.invariant f read c.len_frame-place.ensures
-    (stepped c.args.managed (take (len_frame f.primary_header) rest) f (own_octets rest c.args.managed f there read) l.tally l.next c.hear_in.ensures
+    (stepped c.args.managed (take (len_frame f.primary_header) rest) f (own_octets rest c.args.managed f there read) l.tally l.next
+    c.hear_in.ensures
     (counted f l.next l.invariant.eight _ _ there read c.hear_in.ensures) (c.count.ensures f))
 
 pub returns-in-Err : goal.returns-in-Err
 returns-in-Err c =
-    goes_refused c.loop-place.invariant.goes (omega arith) (answered c.args.buf.now c.loop-place.place c.args.managed c.from_bytes.ensures c.in-Err.is)
+    goes_refused c.loop-place.invariant.goes (omega arith)
+    (answered c.args.buf.now c.loop-place.place c.args.managed c.from_bytes.ensures c.in-Err.is)
 
 pub returns : goal.returns
 returns c = goes_all c.loop-place.invariant.goes (omega arith)
