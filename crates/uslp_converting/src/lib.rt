@@ -15,9 +15,6 @@ pub fn convert(was: Form, from: &[u8], becomes: Form, to: &mut [u8]) -> Result<u
     ensures { Converting was becomes from.now to.old (leaving (paper result) to.new) }
 {
     let restored = restore(ChannelRecord::new(), was, from);
-    let answer = restored.answer;
-    match answer {
-        Ok(()) => save(restored.next, becomes, to),
-        Err(refusal) => Err(refusal),
-    }
+    restored.answer?;
+    save(restored.next, becomes, to)
 }

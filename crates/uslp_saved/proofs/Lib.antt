@@ -4,7 +4,7 @@ pub mod Flags
 pub mod Entries
 pub mod Filled
 pub mod Picked
-pub mod Chosen
+pub mod Nearest
 pub mod Puts
 pub mod Walk
 pub mod Telling

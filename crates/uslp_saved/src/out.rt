@@ -1,4 +1,4 @@
-// The octets of a form, put one behind the other in an array of their own, so that nothing is written to a caller's where saving is refused.
+// The octets of a form, put one behind the other in an array of their own, so that nothing is written where saving is refused.
 ghost use Rattle.std.specs.Prelude.{◌≡◌, [], ◌++◌, ◌+◌, ◌≤◌, ◌<◌, ◌^◌, length};
 ghost use Rattle.uslp_octets.specs.Octets.{octets};
 

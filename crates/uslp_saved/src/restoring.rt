@@ -5,14 +5,14 @@ ghost use Rattle.uslp_octets.specs.Octets.{AreOctets, word};
 ghost use Rattle.uslp_record.specs.Made.{Openable, SoundTotals, Sound};
 ghost use Rattle.uslp_form.specs.Form.{restored};
 ghost use Rattle.uslp_form.specs.FromRow.{unheard_long};
-ghost use Rattle.uslp_saved.specs.Reading.{channel_from, totals_from, first_count, second_count, form_long, place_of, entries_of_octets, Shaped, Flagged, Tells, FirstAt, Above, Admitted, AllAdmitted};
+ghost use Rattle.uslp_saved.specs.Reading.{channel_from, totals_from, first_count, second_count, form_long, place_of, entries_of_octets, Shaped, FlagFits, Flagged, Tells, FirstAt, Above, Admitted, AllAdmitted};
 
 use crate::columns::{Section, entries_len, flag_at, flag_len};
 use crate::saving::rank_of;
 use uslp_form::Form;
 use uslp_kinds::{BypassSequenceControlFlag, MAX_COUNT_LEN, MAX_VC_ID};
 use uslp_octets::{be_number, be_u16};
-use uslp_record::{Channel, ChannelRecord, MOST, SLOTS, Slot, SlotState, Totals};
+use uslp_record::{Channel, ChannelRecord, MOST, SLOTS, SlotState, Totals};
 
 // Octets that have the shape of a form, and their counts: how many entries are not heard, and how many there are in all.
 #[derive(Clone, Copy)]
@@ -55,12 +55,14 @@ impl<'a> Octets<'a> {
     pub(crate) fn flags_fit(&self) -> bool
         ensures { Tells result (Flagged self.now.form self.now.from.now) }
     {
-        for i in 0..self.total {
-            if flag_at(self.form, self.from, self.place_of(i) + 3) > 1 {
-                return false;
-            }
-        }
-        true
+        (0..self.total).all(|i| self.flag_fits(i))
+    }
+
+    fn flag_fits(&self, i: usize) -> bool
+        requires { i < self.now.total }
+        ensures { Tells result (FlagFits self.now.form (drop (place_of self.now.form self.now.unheard i) self.now.from.now)) }
+    {
+        flag_at(self.form, self.from, self.place_of(i) + 3) <= 1
     }
 
     // All entries, in slots from the first on.
@@ -69,9 +71,7 @@ impl<'a> Octets<'a> {
     {
         let mut next = ChannelRecord::new();
         for i in 0..self.total {
-            next.slots[i] = Slot {
-                state: self.entry(i),
-            };
+            next.slots[i].state = self.entry(i);
         }
         next
     }
@@ -96,7 +96,7 @@ impl<'a> Octets<'a> {
 
     // Where entry i begins.
     fn place_of(&self, i: usize) -> usize
-        requires { i < 256 }
+        requires { i < self.now.total }
         ensures { (result ≡ place_of self.now.form self.now.unheard i) × (result < 12802) }
     {
         if i < self.unheard {
@@ -110,12 +110,26 @@ impl<'a> Octets<'a> {
     pub(crate) fn admits(&self, channels: ChannelRecord) -> bool
         ensures { Tells result (AllAdmitted self.now.form channels self.now.unheard self.now.total) }
     {
-        for i in 0..self.total {
-            if !admitted(channels, self.form, self.unheard, i) {
-                return false;
-            }
-        }
-        true
+        (0..self.total).all(|i| self.admits_slot(channels, i))
+    }
+
+    // The entry in slot i is one that calls make, stands above the one before it in its section, and no slot before it holds its channel.
+    fn admits_slot(&self, channels: ChannelRecord, i: usize) -> bool
+        requires { i < 8 }
+        ensures { Tells result (Admitted self.now.form channels self.now.unheard i) }
+    {
+        let state = channels.slots[i].state;
+        sound(state) && self.is_above(channels, i) && is_first(channels, i, state)
+    }
+
+    fn is_above(&self, channels: ChannelRecord, i: usize) -> bool
+        requires { i < 8 }
+        ensures { Tells result (Above self.now.form channels self.now.unheard i) }
+    {
+        let slots = channels.slots;
+        i == 0
+            || i == self.unheard
+            || rank_of(self.form, slots[i - 1].state) < rank_of(self.form, slots[i].state)
     }
 }
 
@@ -153,32 +167,16 @@ fn eight_at(from: &[u8], at: usize) -> u64
     be_number(&from[at..at + 8])
 }
 
-// The entry in slot i is one that calls make, stands above the one before it in its section, and no slot before it holds its channel.
-fn admitted(channels: ChannelRecord, form: Form, unheard: usize, i: usize) -> bool
-    requires { i < 8 }
-    ensures { Tells result (Admitted form channels unheard i) }
-{
-    let state = channels.slots[i].state;
-    sound(state) && above(channels, form, unheard, i) && is_first(channels, i, state)
-}
-
-fn above(channels: ChannelRecord, form: Form, unheard: usize, i: usize) -> bool
-    requires { i < 8 }
-    ensures { Tells result (Above form channels unheard i) }
-{
-    let slots = channels.slots;
-    i == 0 || i == unheard || rank_of(form, slots[i - 1].state) < rank_of(form, slots[i].state)
-}
-
+#[tactic(auto, using(crate::proofs::Telling::first_open))]
 fn is_first(channels: ChannelRecord, i: usize, state: SlotState) -> bool
     requires { i < 8 }
     ensures { Tells result (FirstAt channels i state) }
 {
     match state {
         SlotState::Closed => true,
-        SlotState::Opened { channel, .. } | SlotState::Heard { channel, .. } => channels.search(
-            channel,
-        ) == Some(i),
+        SlotState::Opened { channel, .. } | SlotState::Heard { channel, .. } => {
+            channels.search(channel) == Some(i)
+        }
     }
 }
 

@@ -29,7 +29,8 @@ same f {q} {p} {n} {m} {i} {j} e d g a =
 pub returns-in_default : goal.returns-in_default
 returns-in_default c =
     let a = c.args in
-    subst (Leaves a.form a.channels a.from.now) (sym c.refused.ensures) (restores_shapeless a.form a.from.now a.channels c.in_default.ensures)
+    subst (Leaves a.form a.channels a.from.now) (sym c.refused.ensures)
+    (restores_shapeless a.form a.from.now a.channels c.in_default.ensures)
 
 pub returns-then-not-flags_fit : goal.returns-then-not-flags_fit
 returns-then-not-flags_fit c =

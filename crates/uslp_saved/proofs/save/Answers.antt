@@ -34,4 +34,5 @@ pub returns : goal.returns
 returns c =
     let a = c.args in
     let b = both_sections a.form a.channels c.new-out.ensures c.put_section.ensures c.put_section-2.ensures c.as_slice-octets.ensures in
-    save_done a.form a.channels a.to.now _ (sym c.says_all.ensures ∙ c.if-not-says_all.false) b _ c.if-found-expected.false c.copy_octets.ensures
+    save_done a.form a.channels a.to.now _ (sym c.says_all.ensures ∙ c.if-not-says_all.false) b _
+    c.if-found-expected.false c.copy_octets.ensures
