@@ -7,6 +7,7 @@ use std::env::{Env, FillError};
 use std::fs::{File, Files};
 use std::io::Read;
 use std::{io, str};
+use uslp_kinds::written;
 use uslp_listing::{LISTING_ROOM, MAX_RECORDING_LEN};
 
 // An argument has at most so many octets.
@@ -85,10 +86,8 @@ fn read_full<I: Read>(input: &mut I, buf: &mut [u8]) -> usize
 
 fn print_listing(rt: &impl Print, recording: &[u8]) -> io::Result<()> {
     let mut text = blank();
-    let Ok(length) = uslp_listing::list(recording, &mut text) else {
-        return Ok(());
-    };
-    rt.write_all(&text[..length])
+    let length = uslp_listing::list(recording, &mut text);
+    rt.write_all(written(length, &text))
 }
 
 // Apart, so that no other proof computes on so long an array.
