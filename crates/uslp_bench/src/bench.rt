@@ -20,7 +20,7 @@ use uslp_saved::restore;
 pub(crate) struct Bench {
     channels: ChannelRecord,
     holding: [u8; MAX_FRAME_LEN],
-    // How many octets the intake holds, at the front of the holding buffer.
+    // How many octets the intake holds, at the front of the holding buffer: its promise names the two apart.
     held: usize,
 }
 

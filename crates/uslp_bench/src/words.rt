@@ -1,6 +1,5 @@
 // The words of a line, and what they say.
 use hex::FromHexError;
-use std::alloc::AllocError;
 use std::str;
 use std::str::FromStr;
 use uslp_kinds::ManagedParameters;
@@ -13,12 +12,6 @@ const BUF_ROOM: usize = 140000;
 pub(crate) enum Fault {
     BadWord(&'static str),
     OutOfMemory,
-}
-
-impl From<AllocError> for Fault {
-    fn from(_: AllocError) -> Fault {
-        Fault::OutOfMemory
-    }
 }
 
 // A word that is missing is told as all of them are.
@@ -76,10 +69,7 @@ impl<'a> Words<'a> {
         if word == b"-".as_slice() {
             return Ok(None);
         }
-        match number_in(word) {
-            Some(value) => Ok(Some(value)),
-            None => Err(misfit(word, name)),
-        }
+        Ok(Some(number_in(word).ok_or(misfit(word, name))?))
     }
 
     pub(crate) fn flag(&mut self, name: &'static str) -> Result<bool, Fault> {

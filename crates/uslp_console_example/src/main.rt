@@ -37,7 +37,7 @@ fn replay(rt: &impl Print, channels: &mut ChannelRecord, pass: &[u8]) -> io::Res
     Ok(())
 }
 
-// What is kept from one block to the next.
+// What is kept from one block to the next: the promise of `take_block` names the buffer and how many octets it holds apart.
 #[derive(Drop)]
 struct Link {
     channels: ChannelRecord,

@@ -69,7 +69,7 @@ fn list_from<R: Print, I: Read>(rt: &R, input: &mut I) -> io::Result<()> {
     print_listing(rt, &recording[..n])
 }
 
-// Reads until the buffer is full, the input ends or a read fails.
+// Reads until the buffer is full, the input ends or a read fails. What came before counts, which std's `read_exact` does not say.
 fn read_full<I: Read>(input: &mut I, buf: &mut [u8]) -> usize
     ensures { result ≤ length buf.new }
 {
