@@ -6,6 +6,7 @@ use crate::MAX_FORM_LEN;
 use std::marker::Model;
 use uslp_octets::put_be_number;
 
+// The number is written in place: an ArrayVec would take it by a copy, with an answer to let go.
 #[derive(Drop)]
 pub(crate) struct Out {
     cells: [u8; MAX_FORM_LEN],

@@ -206,6 +206,7 @@ fn sound_totals(width: u8, totals: Totals) -> bool
     requires { width ≤ 7 }
     ensures { Tells result (SoundTotals width totals) }
 {
+    // In two steps: the check finds no proof of one conjunction of all six.
     if totals.last >= 1 << (8 * width) || totals.handed_on == 0 {
         return false;
     }
