@@ -1,5 +1,5 @@
 -- The promises of the setters of `uslp_lent` settle each call, and shut out two tempting wrong answers of each function.
-use mathlib.Core.Path.{◌≡◌, refl, sym, ap, ◌∙◌}
+use mathlib.Core.Path.{◌≡◌, sym, ap, ◌∙◌}
 use Prim.Native.Nat.{ℕ}
 use mathlib.Core.List.{[]}
 use native.Mathlib.Omega.{arith}
