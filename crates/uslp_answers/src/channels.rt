@@ -1,81 +1,64 @@
 // The answers about channels.
-use crate::{say, say_data, say_field, say_refusal, say_zero};
-use std::io;
+use crate::say;
+use crate::values::Shown;
+use std::fmt::Display;
 use std::io::Write;
-use uslp_hearing::{FrameArrival, HearAnswer};
-use uslp_kinds::DoneAnswer;
-use uslp_reader::TransferFrame;
-use uslp_record::{SlotState, StateAnswer, TotalAnswer, Totals};
+use std::{fmt, io};
+use uslp_hearing::FrameArrival;
+use uslp_kinds::Refusal;
+use uslp_record::{SlotState, Totals};
 
-pub fn say_done<W: Write>(out: &mut W, answer: DoneAnswer) -> io::Result<()> {
-    match answer {
-        DoneAnswer::Done => say_zero(out),
-        DoneAnswer::Refused(refusal) => say_refusal(out, refusal),
-    }
+pub fn say_heard<W: Write>(
+    out: &mut W,
+    answer: Result<FrameArrival, Refusal>,
+    octets: &[u8],
+) -> io::Result<()> {
+    say(out, answer.map(|arrival| ArrivalIn { arrival, octets }))
 }
 
-pub fn say_heard<W: Write>(out: &mut W, answer: HearAnswer, octets: &[u8]) -> io::Result<()> {
-    match answer {
-        HearAnswer::Done(arrival) => say_arrival(out, arrival, octets),
-        HearAnswer::Refused(refusal) => say_refusal(out, refusal),
-    }
+// What hearing a frame tells, and the octets that it was read from.
+#[derive(Drop)]
+struct ArrivalIn<'a> {
+    arrival: FrameArrival,
+    octets: &'a [u8],
 }
 
-fn say_arrival<W: Write>(out: &mut W, arrival: FrameArrival, octets: &[u8]) -> io::Result<()> {
-    match arrival {
-        FrameArrival::New { gap, frame } => say_new(out, gap, frame, octets),
-        FrameArrival::Repeat => say(out, b"0 REPEAT"),
-        FrameArrival::Late => say(out, b"0 LATE"),
-    }
-}
-
-fn say_new<W: Write>(out: &mut W, gap: u64, frame: TransferFrame, octets: &[u8]) -> io::Result<()> {
-    say(out, b"0 NEW")?;
-    say_field(out, gap)?;
-    say_data(out, frame.data(octets))
-}
-
-pub fn say_state<W: Write>(out: &mut W, answer: StateAnswer) -> io::Result<()> {
-    match answer {
-        StateAnswer::Done(state) => say_slot(out, state),
-        StateAnswer::Refused(refusal) => say_refusal(out, refusal),
-    }
-}
-
-fn say_slot<W: Write>(out: &mut W, state: SlotState) -> io::Result<()> {
-    say_zero(out)?;
-    match state {
-        // no answer has a closed slot
-        SlotState::Closed => Ok(()),
-        SlotState::Opened { channel: _, width } => {
-            say_field(out, width as u64)?;
-            say(out, b" unheard")
-        }
-        SlotState::Heard {
-            channel: _,
-            width,
-            totals,
-        } => {
-            say_field(out, width as u64)?;
-            say_totals(out, totals)
+impl<'a> Display for ArrivalIn<'a> {
+    fn fmt<W: fmt::Write>(&self, f: &mut fmt::Formatter<W>) -> fmt::Result {
+        match self.arrival {
+            FrameArrival::New { gap, frame } => {
+                write!(f, "NEW {gap} {}", Shown(frame.data(self.octets)))
+            }
+            FrameArrival::Repeat => write!(f, "REPEAT"),
+            FrameArrival::Late => write!(f, "LATE"),
         }
     }
 }
 
-fn say_totals<W: Write>(out: &mut W, totals: Totals) -> io::Result<()> {
-    say_field(out, totals.last)?;
-    say_field(out, totals.handed_on)?;
-    say_field(out, totals.missing)?;
-    say_field(out, totals.repeats)?;
-    say_field(out, totals.late)
+pub fn say_state<W: Write>(out: &mut W, answer: Result<SlotState, Refusal>) -> io::Result<()> {
+    say(out, answer.map(|state| Shown(state)))
 }
 
-pub fn say_total<W: Write>(out: &mut W, answer: TotalAnswer) -> io::Result<()> {
-    match answer {
-        TotalAnswer::Done(missing) => {
-            say_zero(out)?;
-            say_field(out, missing)
+impl Display for Shown<SlotState> {
+    fn fmt<W: fmt::Write>(&self, f: &mut fmt::Formatter<W>) -> fmt::Result {
+        match self.0 {
+            // no answer has a closed slot
+            SlotState::Closed => Ok(()),
+            SlotState::Opened { width, .. } => write!(f, "{width} unheard"),
+            SlotState::Heard { width, totals, .. } => write!(f, "{width} {}", Shown(totals)),
         }
-        TotalAnswer::Refused(refusal) => say_refusal(out, refusal),
+    }
+}
+
+impl Display for Shown<Totals> {
+    fn fmt<W: fmt::Write>(&self, f: &mut fmt::Formatter<W>) -> fmt::Result {
+        let Totals {
+            last,
+            handed_on,
+            missing,
+            repeats,
+            late,
+        } = self.0;
+        write!(f, "{last} {handed_on} {missing} {repeats} {late}")
     }
 }

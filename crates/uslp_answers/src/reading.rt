@@ -1,51 +1,53 @@
 // The commands that read: crc, hr, dr, fr.
-use crate::{say_data, say_field_header, say_header, say_number, say_ocf, say_refusal, say_zero};
-use std::io;
+use crate::say;
+use crate::values::Shown;
+use std::fmt::Display;
 use std::io::Write;
+use std::{fmt, io};
 use uslp_checksum::checksum;
-use uslp_data_field_header::{DataFieldHeaderAnswer, TransferFrameDataFieldHeader};
+use uslp_data_field_header::TransferFrameDataFieldHeader;
 use uslp_kinds::ManagedParameters;
-use uslp_primary_header::{HeaderAnswer, PrimaryHeader};
-use uslp_reader::{FrameAnswer, TransferFrame};
+use uslp_primary_header::PrimaryHeader;
+use uslp_reader::TransferFrame;
 
 pub fn crc<W: Write>(out: &mut W, octets: &[u8]) -> io::Result<()> {
-    say_number(out, checksum(octets) as u64)
+    write!(out, "{}", checksum(octets))
 }
 
 pub fn hr<W: Write>(out: &mut W, octets: &[u8]) -> io::Result<()> {
-    match PrimaryHeader::from_bytes(octets) {
-        HeaderAnswer::Done(header) => {
-            say_zero(out)?;
-            say_header(out, header)
-        }
-        HeaderAnswer::Refused(refusal) => say_refusal(out, refusal),
-    }
+    say(
+        out,
+        PrimaryHeader::from_bytes(octets).map(|header| Shown(header)),
+    )
 }
 
 pub fn dr<W: Write>(out: &mut W, octets: &[u8]) -> io::Result<()> {
-    match TransferFrameDataFieldHeader::from_bytes(octets) {
-        DataFieldHeaderAnswer::Done(header) => {
-            say_zero(out)?;
-            say_field_header(out, header)
-        }
-        DataFieldHeaderAnswer::Refused(refusal) => say_refusal(out, refusal),
-    }
+    say(
+        out,
+        TransferFrameDataFieldHeader::from_bytes(octets).map(|header| Shown(header)),
+    )
 }
 
 pub fn fr<W: Write>(out: &mut W, octets: &[u8], managed: ManagedParameters) -> io::Result<()> {
-    match TransferFrame::from_bytes(octets, managed) {
-        FrameAnswer::Done(frame) => say_frame(out, frame, octets),
-        FrameAnswer::Refused(refusal) => say_refusal(out, refusal),
-    }
+    say(
+        out,
+        TransferFrame::from_bytes(octets, managed).map(|frame| FrameIn { frame, octets }),
+    )
 }
 
-fn say_frame<W: Write>(out: &mut W, frame: TransferFrame, octets: &[u8]) -> io::Result<()> {
-    let header = frame.primary_header;
-    let field = frame.data_field_header;
-    let ocf = frame.operational_control_field;
-    say_zero(out)?;
-    say_header(out, header)?;
-    say_field_header(out, field)?;
-    say_ocf(out, ocf)?;
-    say_data(out, frame.data(octets))
+// A frame, and the octets that it was read from.
+#[derive(Drop)]
+struct FrameIn<'a> {
+    frame: TransferFrame,
+    octets: &'a [u8],
+}
+
+impl<'a> Display for FrameIn<'a> {
+    fn fmt<W: fmt::Write>(&self, f: &mut fmt::Formatter<W>) -> fmt::Result {
+        let frame = self.frame;
+        write!(f, "{} ", Shown(frame.primary_header))?;
+        write!(f, "{} ", Shown(frame.data_field_header))?;
+        write!(f, "{} ", Shown(frame.operational_control_field))?;
+        write!(f, "{}", Shown(frame.data(self.octets)))
+    }
 }

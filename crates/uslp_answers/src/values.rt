@@ -1,58 +1,84 @@
-// The places of a command's words, and what stands in them: numbers, and where the octets begin.
+// Values, as words say them and as the bench shows them.
 ghost use Rattle.std.specs.Prelude.{◌≤◌, ◌<◌, ◌≡◌};
 
-pub const SCID: usize = 0;
-
-pub const DEST: usize = 1;
-
-pub const VC: usize = 2;
-
-pub const MAP: usize = 3;
-
-pub const TOTAL: usize = 4;
-
-pub const BYPASS: usize = 5;
-
-pub const PCC: usize = 6;
-
-pub const OCF_FLAG: usize = 7;
-
-pub const WIDTH: usize = 8;
-
-pub const COUNT: usize = 9;
-
-pub const RULE: usize = 10;
-
-pub const PID: usize = 11;
-
-pub const PTR: usize = 12;
-
-pub const OCF: usize = 13;
-
-pub const FECF: usize = 14;
-
-pub const BUFLEN: usize = 15;
-
-pub const HEX: usize = 16;
-
-pub const END: usize = 17;
-
-pub const PLACES: usize = 18;
-
-pub type Values = [u64; PLACES];
-
-// A value that is not there.
-pub const NONE: u64 = u64::MAX;
-
-// A buffer of so many octets is shown in a line.
-pub const BUF_ROOM: usize = 140000;
+use std::fmt;
+use std::fmt::Display;
+use uslp_data_field_header::TransferFrameDataFieldHeader;
+use uslp_kinds::Refusal;
+use uslp_primary_header::PrimaryHeader;
 
 // A channel, map or width that fits no octet is told as one that the library refuses.
 pub fn octet_of(value: u64) -> u8
     ensures { (value ≤ 255 → result ≡ value) × (255 < value → result ≡ 255) }
 {
-    if value > 255 {
-        return 255;
+    u8::try_from(value).unwrap_or(255)
+}
+
+// Octets are shown in hex, a refusal by its number and what it carries, and what is not there as a dash.
+#[derive(Drop)]
+pub struct Shown<T>(pub T);
+
+impl<'a> Display for Shown<&'a [u8]> {
+    fn fmt<W: fmt::Write>(&self, f: &mut fmt::Formatter<W>) -> fmt::Result {
+        if self.0.is_empty() {
+            return write!(f, "-");
+        }
+        for octet in self.0 {
+            write!(f, "{octet:02x}")?;
+        }
+        Ok(())
     }
-    value as u8
+}
+
+impl<T: Display> Display for Shown<Option<T>> {
+    fn fmt<W: fmt::Write>(&self, f: &mut fmt::Formatter<W>) -> fmt::Result {
+        match &self.0 {
+            Some(value) => write!(f, "{value}"),
+            None => write!(f, "-"),
+        }
+    }
+}
+
+impl Display for Shown<Refusal> {
+    fn fmt<W: fmt::Write>(&self, f: &mut fmt::Formatter<W>) -> fmt::Result {
+        let number = self.0.number();
+        write!(f, "{number}")?;
+        match self.0 {
+            Refusal::ShortSource { found, expected } => write!(f, " {found} {expected}"),
+            Refusal::ShortTarget { found, expected } => write!(f, " {found} {expected}"),
+            Refusal::BadVersion(version) => write!(f, " {version}"),
+            Refusal::BadProtocol(id) => write!(f, " {id}"),
+            Refusal::BadChecksum { stored, computed } => write!(f, " {stored} {computed}"),
+            Refusal::FrameTooShort { length, needed } => write!(f, " {length} {needed}"),
+            Refusal::BadCount { count, width } => write!(f, " {count} {width}"),
+            Refusal::BadPointer(rule) => write!(f, " {}", u8::from(rule)),
+            Refusal::OtherWidth { frame, opened } => write!(f, " {frame} {opened}"),
+            _ => Ok(()),
+        }
+    }
+}
+
+impl Display for Shown<PrimaryHeader> {
+    fn fmt<W: fmt::Write>(&self, f: &mut fmt::Formatter<W>) -> fmt::Result {
+        let header = self.0;
+        let dest = u8::from(header.source_or_dest_field);
+        let bypass = u8::from(header.sequence_control_flag);
+        let command = u8::from(header.protocol_control_command_flag);
+        let ocf = header.ocf_flag as u8;
+        write!(
+            f,
+            "{} {dest} {} {} ",
+            header.spacecraft_id, header.vc_id, header.map_id
+        )?;
+        write!(f, "{} {bypass} {command} {ocf} ", header.frame_len_field)?;
+        write!(f, "{} {}", header.vc_frame_count_len, header.vc_frame_count)
+    }
+}
+
+impl Display for Shown<TransferFrameDataFieldHeader> {
+    fn fmt<W: fmt::Write>(&self, f: &mut fmt::Formatter<W>) -> fmt::Result {
+        let rule = u8::from(self.0.construction_rule);
+        let id = u8::from(self.0.uslp_protocol_id);
+        write!(f, "{rule} {id} {}", Shown(self.0.fhp_or_lvo))
+    }
 }

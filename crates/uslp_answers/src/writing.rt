@@ -1,131 +1,93 @@
 // The commands that write: hw, fw, rw, save, save2, up, down.
-ghost use Rattle.std.specs.Prelude.{◌≡◌, length};
-
-use crate::headers::{frame_of, header_of};
-use crate::values::{BUF_ROOM, BUFLEN, PID, RULE, TOTAL, Values, octet_of};
-use crate::{say_bad, say_refusal, say_written};
+use crate::values::Shown;
 use std::io;
 use std::io::Write;
 use uslp_form::Form;
-use uslp_kinds::{LengthAnswer, ProtocolIdAnswer, UslpProtocolId};
+use uslp_kinds::Refusal;
 use uslp_octets::copy_octets;
-use uslp_primary_header::{HeaderAnswer, PrimaryHeader};
+use uslp_primary_header::PrimaryHeader;
 use uslp_record::ChannelRecord;
-use uslp_writer::{ReservedAnswer, TransferFrameCreator, TransferFrameCreatorWithReservedData};
+use uslp_writer::{TransferFrameCreator, TransferFrameCreatorWithReservedData};
 
-// A buffer as a command finds it. Apart, so that no other proof computes on so long an array.
-fn fresh() -> [u8; BUF_ROOM]
-    ensures { 140000 ≡ length result }
+// A buffer of octets EE, as a command finds it; how many octets of it were written, and the whole buffer.
+fn say_written<R: Alloc, W: Write, F: FnOnce(&mut [u8]) -> Result<usize, Refusal>>(
+    rt: &R,
+    out: &mut W,
+    buf_len: usize,
+    write: F,
+) -> io::Result<()>
+    requires { F.IsAlwaysCallable write }
 {
-    [0xEE; BUF_ROOM]
-}
-
-fn front(octets: &mut [u8], len: usize) -> &mut [u8] {
-    if len <= octets.len() {
-        return &mut octets[0..len];
-    }
-    &mut octets[0..0]
-}
-
-pub fn hw<W: Write>(out: &mut W, values: &Values) -> io::Result<()> {
-    match whole_header(header_of(values), values[TOTAL] as usize) {
-        HeaderAnswer::Refused(refusal) => say_refusal(out, refusal),
-        HeaderAnswer::Done(header) => write_header(out, header, values[BUFLEN] as usize),
+    let mut buf = vec![in rt.alloc(); 0xEE; buf_len]?;
+    match write(buf.as_mut_slice()) {
+        Ok(n) => write!(out, "0 {n} {}", Shown(buf.as_slice())),
+        Err(refusal) => write!(out, "{}", Shown(refusal)),
     }
 }
 
 // A header that cannot be written is told before a length that is too long.
-fn whole_header(header: PrimaryHeader, total: usize) -> HeaderAnswer {
-    match header.checked() {
-        HeaderAnswer::Refused(refusal) => HeaderAnswer::Refused(refusal),
-        HeaderAnswer::Done(checked) => checked.with_frame_len(total),
-    }
+pub fn hw<R: Alloc, W: Write>(
+    rt: &R,
+    out: &mut W,
+    header: PrimaryHeader,
+    total: usize,
+    buf_len: usize,
+) -> io::Result<()> {
+    say_written(rt, out, buf_len, |buf| {
+        header.checked()?.with_frame_len(total)?.write_to_slice(buf)
+    })
 }
 
-fn write_header<W: Write>(out: &mut W, header: PrimaryHeader, len: usize) -> io::Result<()> {
-    let mut room = fresh();
-    let buf = front(&mut room, len);
-    let answer = header.write_to_slice(buf);
-    say_written(out, answer, buf)
-}
-
-// fw, or rw where the data area is reserved first. A rule or a protocol id that no frame has is told after all words are read.
-pub fn fw<W: Write>(out: &mut W, values: &Values, data: &[u8], reserved: bool) -> io::Result<()> {
-    if values[RULE] > 7 {
-        return say_bad(out, b"rule");
-    }
-    match UslpProtocolId::from_number(octet_of(values[PID])) {
-        ProtocolIdAnswer::Refused(_) => say_bad(out, b"pid"),
-        ProtocolIdAnswer::Done(id) => write_frame(
-            out,
-            frame_of(values, id),
-            data,
-            values[BUFLEN] as usize,
-            reserved,
-        ),
-    }
-}
-
-fn write_frame<W: Write>(
+pub fn fw<R: Alloc, W: Write>(
+    rt: &R,
     out: &mut W,
     frame: TransferFrameCreator,
     data: &[u8],
-    len: usize,
-    reserved: bool,
+    buf_len: usize,
 ) -> io::Result<()> {
-    let mut room = fresh();
-    let buf = front(&mut room, len);
-    let answer = written(frame, data, buf, reserved);
-    say_written(out, answer, buf)
+    say_written(rt, out, buf_len, |buf| frame.write_to_slice(data, buf))
 }
 
-fn written(
+// The same by the writer that reserves the data area, through `data_mut`, so that it is tried.
+pub fn rw<R: Alloc, W: Write>(
+    rt: &R,
+    out: &mut W,
     frame: TransferFrameCreator,
     data: &[u8],
-    buf: &mut [u8],
-    reserved: bool,
-) -> LengthAnswer {
-    if reserved {
-        return write_reserved(frame, data, buf);
-    }
-    frame.write_to_slice(data, buf)
+    buf_len: usize,
+) -> io::Result<()> {
+    say_written(rt, out, buf_len, |buf| {
+        let area = TransferFrameCreatorWithReservedData::new(frame, data.len(), buf)?;
+        copy_octets(data, area.data_mut(buf));
+        area.finish(buf)
+    })
 }
 
-fn write_reserved(frame: TransferFrameCreator, data: &[u8], buf: &mut [u8]) -> LengthAnswer {
-    match TransferFrameCreatorWithReservedData::new(frame, data.len(), buf) {
-        ReservedAnswer::Refused(refusal) => LengthAnswer::Refused(refusal),
-        ReservedAnswer::Done(area) => fill(area, data, buf),
-    }
-}
-
-// Through `data_mut`, so that it is tried.
-fn fill(area: TransferFrameCreatorWithReservedData, data: &[u8], buf: &mut [u8]) -> LengthAnswer {
-    copy_octets(data, area.data_mut(buf));
-    area.finish(buf)
-}
-
-pub fn save<W: Write>(
+pub fn save<R: Alloc, W: Write>(
+    rt: &R,
     out: &mut W,
     form: Form,
-    values: &Values,
     channels: ChannelRecord,
+    buf_len: usize,
 ) -> io::Result<()> {
-    let mut room = fresh();
-    let buf = front(&mut room, values[BUFLEN] as usize);
-    let answer = uslp_saved::save(channels, form, buf);
-    say_written(out, answer, buf)
+    say_written(
+        rt,
+        out,
+        buf_len,
+        |buf| uslp_saved::save(channels, form, buf),
+    )
 }
 
 // Octets of one form as octets of the other.
-pub fn convert<W: Write>(
+pub fn convert<R: Alloc, W: Write>(
+    rt: &R,
     out: &mut W,
     was: Form,
     becomes: Form,
-    values: &Values,
     octets: &[u8],
+    buf_len: usize,
 ) -> io::Result<()> {
-    let mut room = fresh();
-    let buf = front(&mut room, values[BUFLEN] as usize);
-    let answer = uslp_converting::convert(was, octets, becomes, buf);
-    say_written(out, answer, buf)
+    say_written(rt, out, buf_len, |buf| {
+        uslp_converting::convert(was, octets, becomes, buf)
+    })
 }

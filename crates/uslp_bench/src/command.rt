@@ -1,225 +1,201 @@
-// The commands: their words, and what each does.
-use crate::Bench;
-use crate::channels::{close, hear, managed, open, restore, save, show, total};
-use crate::places::{no_values, read};
-use crate::words::{decode, next_word, part, part_mut, row_of};
-use std::io;
-use std::io::Write;
-use uslp_answers::reading::{crc, dr, fr, hr};
-use uslp_answers::values::{HEX, Values};
-use uslp_answers::writing::{convert, fw, hw};
-use uslp_answers::{say, say_bad, say_zero};
+// The commands, and the words of each.
+use crate::words::{Fault, Words};
+use std::alloc::Allocator;
+use uslp_answers::values::octet_of;
+use uslp_data_field_header::TransferFrameDataFieldHeader;
 use uslp_form::Form;
-use uslp_intake_answers::feed;
-use uslp_many_answers::many;
-use uslp_record::ChannelRecord;
+use uslp_kinds::{
+    BypassSequenceControlFlag, ConstructionRule, ManagedParameters, ProtocolControlCommandFlag,
+    SourceOrDestField, UslpProtocolId,
+};
+use uslp_primary_header::PrimaryHeader;
+use uslp_record::Channel;
+use uslp_writer::TransferFrameCreator;
 
-// The rows of `command_in`.
-const CRC: usize = 0;
-
-const HR: usize = 1;
-
-const DR: usize = 2;
-
-const FR: usize = 3;
-
-const HW: usize = 4;
-
-const FW: usize = 5;
-
-const RW: usize = 6;
-
-const OPEN: usize = 7;
-
-const CLOSE: usize = 8;
-
-const HEAR: usize = 9;
-
-const SHOW: usize = 10;
-
-const TOTAL: usize = 11;
-
-const SAVE: usize = 12;
-
-const RESTORE: usize = 13;
-
-const MANY: usize = 14;
-
-const FEED: usize = 15;
-
-const DROP: usize = 16;
-
-const SAVE2: usize = 17;
-
-const RESTORE2: usize = 18;
-
-const UP: usize = 19;
-
-const DOWN: usize = 20;
-
-const NOTHING: usize = 21;
-
-// Answers the line that is held. One that is too long is no command, as an empty one.
-pub(crate) fn answer<W: Write>(
-    out: &mut W,
-    line: &mut [u8],
-    holding: &mut [u8],
-    bench: Bench,
-) -> io::Result<Bench> {
-    let mut next = answer_line(out, part_mut(line, 0, bench.held), holding, bench)?;
-    next.held = 0;
-    say(out, b"\n")?;
-    Ok(next)
+#[derive(Drop)]
+pub(crate) enum Command<A: Allocator> {
+    Frame(FrameCommand<A>),
+    Open(Channel, u8),
+    Close(Channel),
+    Show(Channel),
+    Total,
+    Save(Form, usize),
+    Restore(Form, Vec<u8, A>),
+    Hear(ManagedParameters, Vec<u8, A>),
+    Many(ManagedParameters, Vec<u8, A>),
+    Feed(ManagedParameters, Vec<u8, A>),
+    DropHeld,
 }
 
-fn answer_line<W: Write>(
-    out: &mut W,
-    line: &mut [u8],
-    holding: &mut [u8],
-    bench: Bench,
-) -> io::Result<Bench> {
-    let mut values = no_values();
-    let command = command_in(out, line, &mut values)?;
-    let start = values[HEX] as usize;
-    let digits = next_word(line, start);
-    act(
-        out,
-        command,
-        &values,
-        part_mut(line, start, digits.end),
-        holding,
-        bench,
-    )
+// The commands that keep nothing.
+#[derive(Drop)]
+pub(crate) enum FrameCommand<A: Allocator> {
+    Checksum(Vec<u8, A>),
+    ReadHeader(Vec<u8, A>),
+    ReadFieldHeader(Vec<u8, A>),
+    ReadFrame(ManagedParameters, Vec<u8, A>),
+    WriteHeader {
+        header: PrimaryHeader,
+        total: usize,
+        buf_len: usize,
+    },
+    WriteFrame(FrameToWrite<A>),
+    Reserve(FrameToWrite<A>),
+    Convert {
+        was: Form,
+        becomes: Form,
+        buf_len: usize,
+        octets: Vec<u8, A>,
+    },
 }
 
-// A row has a command's name and the places of its words.
-fn command_in<W: Write>(out: &mut W, line: &[u8], values: &mut Values) -> io::Result<usize> {
-    let rows = b"crc hex
-hr hex
-dr hex
-fr fecf hex
-hw scid dest vc map total bypass pcc ocfflag width count buflen
-fw scid dest vc map bypass pcc ocfflag width count rule pid ptr ocf fecf buflen hex
-rw scid dest vc map bypass pcc ocfflag width count rule pid ptr ocf fecf buflen hex
-open scid vc bypass width
-close scid vc bypass
-hear fecf hex
-show scid vc bypass
-total
-save buflen
-restore hex
-many fecf hex
-feed fecf hex
-drop
-save2 buflen
-restore2 hex
-up buflen hex
-down buflen hex";
-    called(out, rows, line, values)
+#[derive(Drop)]
+pub(crate) struct FrameToWrite<A: Allocator> {
+    pub(crate) frame: TransferFrameCreator,
+    pub(crate) buf_len: usize,
+    pub(crate) data: Vec<u8, A>,
 }
 
-// The row of the command that a line calls, or nothing where its words do not fit, which is told.
-fn called<W: Write>(
-    out: &mut W,
-    rows: &[u8],
-    line: &[u8],
-    values: &mut Values,
-) -> io::Result<usize> {
-    let word = next_word(line, 0);
-    let row = row_of(part(line, word.start, word.end), rows);
-    if row.number >= NOTHING {
-        say_bad(out, b"command")?;
-        return Ok(NOTHING);
+// The command that a line calls. The first word that does not fit is told.
+pub(crate) fn command_in<R: Alloc>(rt: &R, line: &[u8]) -> Result<Command<R::A>, Fault> {
+    let mut words = Words::new(line);
+    let name = words.word();
+    let command = match name {
+        b"open" => Command::Open(channel(&mut words)?, octet_of(words.number("width")?)),
+        b"close" => Command::Close(channel(&mut words)?),
+        b"hear" => Command::Hear(words.managed()?, words.octets(rt)?),
+        b"show" => Command::Show(channel(&mut words)?),
+        b"total" => Command::Total,
+        b"save" => Command::Save(Form::One, words.buf_len()?),
+        b"restore" => Command::Restore(Form::One, words.octets(rt)?),
+        b"many" => Command::Many(words.managed()?, words.octets(rt)?),
+        b"feed" => Command::Feed(words.managed()?, words.octets(rt)?),
+        b"drop" => Command::DropHeld,
+        b"save2" => Command::Save(Form::Two, words.buf_len()?),
+        b"restore2" => Command::Restore(Form::Two, words.octets(rt)?),
+        _ => Command::Frame(frame_command(rt, name, &mut words)?),
+    };
+    words.end()?;
+    Ok(command)
+}
+
+fn frame_command<R: Alloc>(
+    rt: &R,
+    name: &[u8],
+    words: &mut Words,
+) -> Result<FrameCommand<R::A>, Fault> {
+    Ok(match name {
+        b"crc" => FrameCommand::Checksum(words.octets(rt)?),
+        b"hr" => FrameCommand::ReadHeader(words.octets(rt)?),
+        b"dr" => FrameCommand::ReadFieldHeader(words.octets(rt)?),
+        b"fr" => FrameCommand::ReadFrame(words.managed()?, words.octets(rt)?),
+        b"hw" => header_to_write(words)?,
+        b"fw" => FrameCommand::WriteFrame(frame_to_write(rt, words)?),
+        b"rw" => FrameCommand::Reserve(frame_to_write(rt, words)?),
+        b"up" => to_convert(rt, words, Form::One, Form::Two)?,
+        b"down" => to_convert(rt, words, Form::Two, Form::One)?,
+        _ => return Err(Fault::BadWord("command")),
+    })
+}
+
+fn channel(words: &mut Words) -> Result<Channel, Fault> {
+    Ok(Channel {
+        spacecraft_id: words.number("scid")?,
+        vc_id: octet_of(words.number("vc")?),
+        sequence_control_flag: bypass(words)?,
+    })
+}
+
+fn bypass(words: &mut Words) -> Result<BypassSequenceControlFlag, Fault> {
+    Ok(BypassSequenceControlFlag::from(words.flag("bypass")? as u8))
+}
+
+// A header's words up to the map; the others are still to come.
+fn place(words: &mut Words) -> Result<PrimaryHeader, Fault> {
+    Ok(PrimaryHeader {
+        spacecraft_id: words.number("scid")?,
+        source_or_dest_field: SourceOrDestField::from(words.flag("dest")? as u8),
+        vc_id: octet_of(words.number("vc")?),
+        map_id: octet_of(words.number("map")?),
+        frame_len_field: 0,
+        sequence_control_flag: BypassSequenceControlFlag::SequenceControlledQoS,
+        protocol_control_command_flag: ProtocolControlCommandFlag::TfdfContainsUserData,
+        ocf_flag: false,
+        vc_frame_count_len: 0,
+        vc_frame_count: 0,
+    })
+}
+
+// A header's words behind the map, and behind the length where a command says one.
+fn behind_place(words: &mut Words, place: PrimaryHeader) -> Result<PrimaryHeader, Fault> {
+    Ok(PrimaryHeader {
+        sequence_control_flag: bypass(words)?,
+        protocol_control_command_flag: ProtocolControlCommandFlag::from(words.flag("pcc")? as u8),
+        ocf_flag: words.flag("ocfflag")?,
+        vc_frame_count_len: octet_of(words.number("width")?),
+        vc_frame_count: words.number("count")?,
+        ..place
+    })
+}
+
+fn header_to_write<A: Allocator>(words: &mut Words) -> Result<FrameCommand<A>, Fault> {
+    let place = place(words)?;
+    let total = words.number("total")?;
+    let header = behind_place(words, place)?;
+    let buf_len = words.buf_len()?;
+    Ok(FrameCommand::WriteHeader {
+        header,
+        total,
+        buf_len,
+    })
+}
+
+// A rule or a protocol id that no frame has is told after all words are read.
+fn frame_to_write<R: Alloc>(rt: &R, words: &mut Words) -> Result<FrameToWrite<R::A>, Fault> {
+    let place = place(words)?;
+    let primary_header = behind_place(words, place)?;
+    let rule = octet_of(words.number("rule")?);
+    let id = octet_of(words.number("pid")?);
+    let fhp_or_lvo = words.optional("ptr")?;
+    let operational_control_field = words.optional("ocf")?;
+    let has_fecf = words.flag("fecf")?;
+    let buf_len = words.buf_len()?;
+    let data = words.octets(rt)?;
+    words.end()?;
+    if rule > 7 {
+        return Err(Fault::BadWord("rule"));
     }
-    if read(out, part(rows, row.start, row.end), line, word.end, values)? {
-        return Ok(row.number);
-    }
-    Ok(NOTHING)
+    let Ok(uslp_protocol_id) = UslpProtocolId::try_from(id) else {
+        return Err(Fault::BadWord("pid"));
+    };
+    let data_field_header = TransferFrameDataFieldHeader {
+        construction_rule: ConstructionRule::from(rule),
+        uslp_protocol_id,
+        fhp_or_lvo,
+    };
+    let frame = TransferFrameCreator {
+        primary_header,
+        data_field_header,
+        operational_control_field,
+        has_fecf,
+    };
+    Ok(FrameToWrite {
+        frame,
+        buf_len,
+        data,
+    })
 }
 
-// Octets are laid over the digits that say them.
-fn act<W: Write>(
-    out: &mut W,
-    command: usize,
-    values: &Values,
-    digits: &mut [u8],
-    holding: &mut [u8],
-    bench: Bench,
-) -> io::Result<Bench> {
-    decode(digits);
-    let n = digits.len() / 2;
-    let data = part(digits, 0, n);
-    act_on_frame(out, command, values, data)?;
-    let mut next = bench;
-    next.channels = act_on_channels(out, command, values, data, bench.channels)?;
-    next.in_intake = act_on_intake(out, command, values, data, holding, bench.in_intake)?;
-    Ok(next)
-}
-
-fn act_on_frame<W: Write>(
-    out: &mut W,
-    command: usize,
-    values: &Values,
-    data: &[u8],
-) -> io::Result<()> {
-    match command {
-        CRC => crc(out, data),
-        HR => hr(out, data),
-        DR => dr(out, data),
-        FR => fr(out, data, managed(values)),
-        HW => hw(out, values),
-        FW => fw(out, values, data, false),
-        RW => fw(out, values, data, true),
-        UP => convert(out, Form::One, Form::Two, values, data),
-        DOWN => convert(out, Form::Two, Form::One, values, data),
-        _ => Ok(()),
-    }
-}
-
-fn act_on_channels<W: Write>(
-    out: &mut W,
-    command: usize,
-    values: &Values,
-    data: &[u8],
-    channels: ChannelRecord,
-) -> io::Result<ChannelRecord> {
-    match command {
-        OPEN => open(out, values, channels),
-        CLOSE => close(out, values, channels),
-        HEAR => hear(out, values, data, channels),
-        SHOW => show(out, values, channels),
-        TOTAL => total(out, channels),
-        SAVE => save(out, Form::One, values, channels),
-        RESTORE => restore(out, Form::One, data, channels),
-        SAVE2 => save(out, Form::Two, values, channels),
-        RESTORE2 => restore(out, Form::Two, data, channels),
-        MANY => {
-            let mut next = channels;
-            many(out, data, managed(values), &mut next)?;
-            Ok(next)
-        }
-        _ => Ok(channels),
-    }
-}
-
-fn act_on_intake<W: Write>(
-    out: &mut W,
-    command: usize,
-    values: &Values,
-    data: &[u8],
-    holding: &mut [u8],
-    held: usize,
-) -> io::Result<usize> {
-    match command {
-        FEED => {
-            let mut after = held;
-            feed(out, holding, &mut after, data, managed(values))?;
-            Ok(after)
-        }
-        DROP => {
-            say_zero(out)?;
-            Ok(0)
-        }
-        _ => Ok(held),
-    }
+fn to_convert<R: Alloc>(
+    rt: &R,
+    words: &mut Words,
+    was: Form,
+    becomes: Form,
+) -> Result<FrameCommand<R::A>, Fault> {
+    Ok(FrameCommand::Convert {
+        was,
+        becomes,
+        buf_len: words.buf_len()?,
+        octets: words.octets(rt)?,
+    })
 }

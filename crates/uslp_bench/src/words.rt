@@ -1,160 +1,123 @@
-// Words of a text, and what they make: numbers, octets, the place of a name in a list.
-ghost use Rattle.std.specs.Prelude.{◌≤◌};
+// The words of a line, and what they say.
+use hex::FromHexError;
+use std::str;
+use std::str::FromStr;
+use uslp_kinds::ManagedParameters;
 
-// Where a word stands; it is empty where the text has no more.
+// A buffer of so many octets is shown in a line.
+const BUF_ROOM: usize = 140000;
+
+// Why a line is not done: a word does not fit the place of this name, or there is no memory for its octets.
 #[derive(Drop)]
-pub(crate) struct Word {
-    pub(crate) start: usize,
-    pub(crate) end: usize,
+pub(crate) enum Fault {
+    BadWord(&'static str),
+    OutOfMemory,
 }
 
+// A word that is missing is told as all of them are.
+fn misfit(word: &[u8], name: &'static str) -> Fault {
+    if word.is_empty() {
+        return Fault::BadWord("arguments");
+    }
+    Fault::BadWord(name)
+}
+
+// The words of a line that are still to be read.
 #[derive(Drop)]
-pub(crate) enum Number {
-    Is(u64),
-    Not,
+pub(crate) struct Words<'a> {
+    rest: &'a [u8],
 }
 
-pub(crate) fn next_word(text: &[u8], from: usize) -> Word {
-    let start = skip(text, from, true);
-    Word {
-        start,
-        end: skip(text, start, false),
+impl<'a> Words<'a> {
+    pub(crate) fn new(line: &'a [u8]) -> Words<'a> {
+        Words { rest: line }
     }
-}
 
-// The place behind the blanks that stand from here on, or behind what is none.
-fn skip(text: &[u8], from: usize, blanks: bool) -> usize {
-    for i in from..text.len() {
-        if is_blank(text[i]) != blanks {
-            return i;
+    // The next word; it is empty where the line has no more.
+    pub(crate) fn word(&mut self) -> &'a [u8] {
+        let text = self.rest.trim_ascii_start();
+        let end = text
+            .iter()
+            .position(|c| c.is_ascii_whitespace())
+            .unwrap_or(text.len());
+        let (word, rest) = text.split_at(end);
+        self.rest = rest;
+        word
+    }
+
+    pub(crate) fn end(&mut self) -> Result<(), Fault> {
+        if self.word().is_empty() {
+            return Ok(());
+        }
+        Err(Fault::BadWord("arguments"))
+    }
+
+    pub(crate) fn number<T: FromStr>(&mut self, name: &'static str) -> Result<T, Fault>
+    where
+        T::Err: Drop,
+    {
+        let word = self.word();
+        number_in(word).ok_or(misfit(word, name))
+    }
+
+    // A number, or a dash for none.
+    pub(crate) fn optional<T: FromStr>(&mut self, name: &'static str) -> Result<Option<T>, Fault>
+    where
+        T::Err: Drop,
+    {
+        let word = self.word();
+        if word == b"-".as_slice() {
+            return Ok(None);
+        }
+        Ok(Some(number_in(word).ok_or(misfit(word, name))?))
+    }
+
+    pub(crate) fn flag(&mut self, name: &'static str) -> Result<bool, Fault> {
+        match self.word() {
+            b"0" => Ok(false),
+            b"1" => Ok(true),
+            word => Err(misfit(word, name)),
         }
     }
-    from.max(text.len())
-}
 
-fn is_blank(c: u8) -> bool {
-    match c {
-        b' ' | b'\t' | b'\n' | b'\x0c' | b'\r' => true,
-        _ => false,
+    // What the link agrees on, as far as a command says it.
+    pub(crate) fn managed(&mut self) -> Result<ManagedParameters, Fault> {
+        let has_fecf = self.flag("fecf")?;
+        Ok(ManagedParameters { has_fecf })
     }
-}
 
-// A part of a slice; nothing where the slice does not reach so far.
-pub(crate) fn part(octets: &[u8], start: usize, end: usize) -> &[u8] {
-    if start <= end {
-        if end <= octets.len() {
-            return &octets[start..end];
+    pub(crate) fn buf_len(&mut self) -> Result<usize, Fault> {
+        let len = self.number("buflen")?;
+        if len > BUF_ROOM {
+            return Err(Fault::BadWord("buflen"));
+        }
+        Ok(len)
+    }
+
+    // Octets in lower-case hex, or a dash for none.
+    pub(crate) fn octets<R: Alloc>(&mut self, rt: &R) -> Result<Vec<u8, R::A>, Fault> {
+        let word = self.word();
+        if word == b"-".as_slice() {
+            return Ok(Vec::new(rt.alloc()));
+        }
+        if word.is_empty() || word.iter().any(|c| c.is_ascii_uppercase()) {
+            return Err(misfit(word, "hex"));
+        }
+        match hex::decode(rt.alloc(), word) {
+            Ok(octets) => Ok(octets),
+            Err(FromHexError::OutOfMemory) => Err(Fault::OutOfMemory),
+            Err(_) => Err(Fault::BadWord("hex")),
         }
     }
-    &octets[0..0]
 }
 
-pub(crate) fn part_mut(octets: &mut [u8], start: usize, end: usize) -> &mut [u8] {
-    if start <= end {
-        if end <= octets.len() {
-            return &mut octets[start..end];
-        }
-    }
-    &mut octets[0..0]
-}
-
-// Which of a text's words this is; the number of them for an empty one.
-pub(crate) fn index_of(word: &[u8], names: &[u8]) -> usize {
-    let mut behind: usize = 0;
-    for n in 0..names.len() {
-        let name = next_word(names, behind);
-        if word == part(names, name.start, name.end) {
-            return n;
-        }
-        behind = name.end;
-    }
-    names.len()
-}
-
-// A row of a table, from behind its first word on.
-#[derive(Drop)]
-pub(crate) struct Row {
-    pub(crate) number: usize,
-    pub(crate) start: usize,
-    pub(crate) end: usize,
-}
-
-// The row that begins with a name; its number is no less than that of all rows where there is none.
-pub(crate) fn row_of(name: &[u8], rows: &[u8]) -> Row {
-    let mut end: usize = 0;
-    for number in 0..rows.len() {
-        let word = next_word(rows, end);
-        let start = word.end;
-        end = line_end(rows, start);
-        if name == part(rows, word.start, start) {
-            return Row { number, start, end };
-        }
-    }
-    Row {
-        number: rows.len(),
-        start: end,
-        end,
-    }
-}
-
-fn line_end(text: &[u8], from: usize) -> usize {
-    for i in from..text.len() {
-        if text[i] == b'\n' {
-            return i;
-        }
-    }
-    from.max(text.len())
-}
-
-pub(crate) fn decimal_in(word: &[u8]) -> Number {
-    if word.len() == 0 {
-        return Number::Not;
-    }
-    let mut value: u64 = 0;
-    for c in word {
-        let digit = digit_in(*c) as u64;
-        if digit > 9 {
-            return Number::Not;
-        }
-        if value > (u64::MAX - digit) / 10 {
-            return Number::Not;
-        }
-        value = value * 10 + digit;
-    }
-    Number::Is(value)
-}
-
-// The value of a lower-case hex digit, or 16.
-fn digit_in(c: u8) -> u8
-    ensures { result ≤ 16 }
+// A decimal number without a sign.
+fn number_in<T: FromStr>(word: &[u8]) -> Option<T>
+where
+    T::Err: Drop,
 {
-    match c {
-        b'0'..=b'9' => c - b'0',
-        b'a'..=b'f' => c - b'a' + 10,
-        _ => 16,
+    if word.starts_with(b"+") {
+        return None;
     }
-}
-
-pub(crate) fn is_hex(word: &[u8]) -> bool {
-    if word.len() == 0 {
-        return false;
-    }
-    for c in word {
-        if digit_in(*c) > 15 {
-            return false;
-        }
-    }
-    word.len() % 2 == 0
-}
-
-// Lays the octets that hex digits make over their front.
-pub(crate) fn decode(digits: &mut [u8]) {
-    let n = digits.len() / 2;
-    for i in 0..n {
-        digits[i] = octet_in(digits[2 * i], digits[2 * i + 1]);
-    }
-}
-
-fn octet_in(first: u8, second: u8) -> u8 {
-    digit_in(first) % 16 * 16 + digit_in(second) % 16
+    str::from_utf8(word).ok()?.parse().ok()
 }

@@ -4,12 +4,11 @@
 use std::io;
 use uslp_data_field_header::TransferFrameDataFieldHeader;
 use uslp_kinds::{
-    BypassSequenceControlFlag, ConstructionRule, FhpOrLvo, LengthAnswer, ManagedParameters,
-    NO_FECF, OperationalControlField, ProtocolControlCommandFlag, SourceOrDestField,
-    UslpProtocolId, WITH_FECF,
+    BypassSequenceControlFlag, ConstructionRule, ManagedParameters, NO_FECF,
+    ProtocolControlCommandFlag, SourceOrDestField, UslpProtocolId, WITH_FECF,
 };
-use uslp_primary_header::{HeaderAnswer, PrimaryHeader};
-use uslp_reader::{FrameAnswer, TransferFrame};
+use uslp_primary_header::PrimaryHeader;
+use uslp_reader::TransferFrame;
 use uslp_writer::TransferFrameCreator;
 
 fn main(rt: HostRuntime) -> io::Result<()> {
@@ -24,35 +23,22 @@ fn cases(rt: &impl Print) -> io::Result<()> {
         uslp_checksum::update_by_table(0xFFFF, b"123456789"),
     )?;
     sum(rt, "bitwise", uslp_checksum::checksum_bitwise(b"123456789"))?;
-    let b1 = [
-        0xB1u8, 0x23, 0x48, 0xA6, 0x00, 0x0A, 0x01, 0x07, 0xE4, 0x0A, 0xF0,
-    ];
-    read(rt, "first octet B1", &b1, NO_FECF)?;
-    let short = [
-        0xC1u8, 0x23, 0x48, 0xA6, 0x00, 0x08, 0x01, 0x07, 0xE4, 0x0A, 0xF0,
-    ];
-    read(rt, "length octets 00 08", &short, NO_FECF)?;
-    read(rt, "length octets 00 08, FECF asked for", &short, WITH_FECF)?;
-    write(rt, "65528 octets of data", 65528)?;
-    write(rt, "65529 octets of data", 65529)?;
+    let b1 = b"\xB1\x23\x48\xA6\x00\x0A\x01\x07\xE4\x0A\xF0";
+    read(rt, "first octet B1", b1, NO_FECF)?;
+    let short = b"\xC1\x23\x48\xA6\x00\x08\x01\x07\xE4\x0A\xF0";
+    read(rt, "length octets 00 08", short, NO_FECF)?;
+    read(rt, "length octets 00 08, FECF asked for", short, WITH_FECF)?;
+    let data = [0x0A; 65529];
+    write(rt, "65528 octets of data", &data[..65528])?;
+    write(rt, "65529 octets of data", &data)?;
     count(rt, "width 7, count 2^56 - 1", 0x00FF_FFFF_FFFF_FFFF)?;
     count(rt, "width 7, count 2^56", 0x0100_0000_0000_0000)
 }
 
-fn say(rt: &impl Print, what: &str, answer: u8) -> io::Result<()> {
-    print!(rt; "{what}: {answer}")
-}
-
 fn read(rt: &impl Print, what: &str, octets: &[u8], managed: ManagedParameters) -> io::Result<()> {
     match TransferFrame::from_bytes(octets, managed) {
-        FrameAnswer::Done(frame) => {
-            say(rt, what, 0)?;
-            println!(rt; ", data {}", frame.data_len)
-        }
-        FrameAnswer::Refused(refusal) => {
-            say(rt, what, refusal.number())?;
-            println!(rt; "")
-        }
+        Ok(frame) => println!(rt; "{what}: 0, data {}", frame.data_len),
+        Err(refusal) => println!(rt; "{what}: {}", refusal.number()),
     }
 }
 
@@ -72,38 +58,30 @@ fn header() -> PrimaryHeader {
     }
 }
 
-fn write(rt: &impl Print, what: &str, len: usize) -> io::Result<()> {
+fn write(rt: &impl Print, what: &str, data: &[u8]) -> io::Result<()> {
     let frame = TransferFrameCreator {
         primary_header: header(),
         data_field_header: TransferFrameDataFieldHeader {
             construction_rule: ConstructionRule::NoSegmentation,
             uslp_protocol_id: UslpProtocolId::UserDefinedOctetStream,
-            fhp_or_lvo: FhpOrLvo::Absent,
+            fhp_or_lvo: None,
         },
-        operational_control_field: OperationalControlField::Absent,
+        operational_control_field: None,
         has_fecf: false,
     };
-    let data = [0x0Au8; 65529];
-    let mut buf = [0xEEu8; 65540];
-    if len <= 65529 {
-        match frame.write_to_slice(&data[0..len], &mut buf) {
-            LengthAnswer::Done(total) => {
-                say(rt, what, 0)?;
-                print!(rt; ", total {total}")?;
-            }
-            LengthAnswer::Refused(refusal) => say(rt, what, refusal.number())?,
-        }
-        println!(rt; ", length octets {:02x} {:02x}", buf[4], buf[5])?;
+    let mut buf = [0xEE; 65540];
+    match frame.write_to_slice(data, &mut buf) {
+        Ok(total) => print!(rt; "{what}: 0, total {total}")?,
+        Err(refusal) => print!(rt; "{what}: {}", refusal.number())?,
     }
-    Ok(())
+    println!(rt; ", length octets {:02x} {:02x}", buf[4], buf[5])
 }
 
 fn count(rt: &impl Print, what: &str, value: u64) -> io::Result<()> {
     match header().with_vc_frame_count(7, value) {
-        HeaderAnswer::Done(_) => say(rt, what, 0)?,
-        HeaderAnswer::Refused(refusal) => say(rt, what, refusal.number())?,
+        Ok(_) => println!(rt; "{what}: 0"),
+        Err(refusal) => println!(rt; "{what}: {}", refusal.number()),
     }
-    println!(rt; "")
 }
 
 // The name of a form, and its value as four hexadecimal digits.

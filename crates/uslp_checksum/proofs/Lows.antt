@@ -1,20 +1,24 @@
 -- Feeding the low bits of a number: it takes sums to sums, and a number's bits can be fed in parts.
 use mathlib.Core.Path.{◌≡◌, refl, sym, ap, ap₂, ◌∙◌}
-use mathlib.Core.List.{List, ◌∷◌, ◌++◌}
+use mathlib.Core.List.{List, [], ◌∷◌, ◌++◌}
 use mathlib.Core.Bool.{Bool}
 use Prim.Native.Nat.{ℕ, zero, suc, ◌+◌, ◌*◌, ◌/◌, ◌%◌, ◌^◌, ◌≤◌, ◌<◌}
-use native.Mathlib.Nat.{add_comm, add-zero, zero-add, suc-add, add-suc, zero-div, div-one, div-eq_of_lt, mul-mod_left}
+use native.Mathlib.Nat.{le_refl, add_comm, add-zero, zero-add, suc-add, add-suc, zero-div, div-one, div-eq_of_lt, mul-mod_left}
 use native.Mathlib.Numerals.{add-one}
 use native.Mathlib.Omega.{arith}
-use lib.ListN.{length, take, get_or}
+use lib.ListN.{length, take, drop, get_or, take-append-drop}
+use lib.Seq.{length-take-le}
 use lib.Pow.{shl-shr, shr-shr, high, low, field, mod-mod-pow}
 use lib.Dec.{eqb}
 use lib.Bits.{bit_xor}
+use Rattle.std.specs.Int.{w64, from_be_bytes}
+use Rattle.std.specs.Simd.{first_chunks}
 use Rattle.uslp_octets.specs.Octets.{word, AreOctets}
+use Rattle.uslp_octets.proofs.Laws.{word_take, word_drop, word_fits}
 use Rattle.uslp_checksum.specs.Checksum.{bit, step, feed, lows, bits}
 use Rattle.uslp_checksum.proofs.Xor.{bit_xor_lem}
 use Rattle.uslp_checksum.proofs.Register.{step_xor}
-use Rattle.uslp_checksum.proofs.Message.{feed_append, feed_more}
+use Rattle.uslp_checksum.proofs.Message.{feed_append, feed_more, feed_none, bits_append}
 use Rattle.uslp_checksum.proofs.Powers.{Sums, sums_zero}
 
 pub feed_sums : (k r s a b : ℕ) → feed (bit_xor r s) (lows k (bit_xor a b)) ≡ bit_xor (feed r (lows k a)) (feed s (lows k b))
@@ -103,3 +107,31 @@ module _ (m : List ℕ) (oct : AreOctets m) (i : ℕ) where
       let places : 8 * suc j ≡ 8 + 8 * j = omega arith in
       ap₂ (λ (x y : ℕ). word i x m / 2 ^ y) (add-suc k j) places ∙ sym (shr-shr (word i (suc (k + j)) m) 8 (8 * j))
       ∙ ap (λ (x : ℕ). x / 2 ^ (8 * j)) (high (word i (k + j) m) 8 (oct (i + (k + j)))) ∙ word_front k j
+
+-- the first k octets as a number, and what is left to feed behind them
+module _ (s : List ℕ) (oct : AreOctets s) (k : ℕ) (room : k ≤ length s) where
+  pub front_number : k ≤ 8 → word 0 (length (take k s)) (take k s) % 2 ^ 64 ≡ word 0 k s
+  front_number h =
+      ap (λ (j : ℕ). word 0 j (take k s) % 2 ^ 64) (length-take-le k s room)
+      ∙ ap (λ (x : ℕ). x % 2 ^ 64) (word_take 0 k k s (omega arith)) ∙ word_fits s 0 oct k h
+
+  pub front_fed : (r : ℕ) → feed (feed r (lows (8 * k) (word 0 k s))) (bits (drop k s)) ≡ feed r (bits s)
+  front_fed r =
+      ap (λ (x : ℕ). feed x (bits (drop k s)))
+      (ap (λ (x : ℕ). feed x (lows (8 * k) (word 0 k s))) (sym (feed_none r)) ∙ sym (feed_word s oct 0 r k (omega arith))
+      ∙ ap (λ (j : ℕ). feed r (bits (take j s))) (zero-add k))
+      ∙ sym (feed_append (bits (take k s)) (bits (drop k s)) r)
+      ∙ ap (feed r) (sym (bits_append (take k s) (drop k s)))
+      ∙ ap (λ (x : List ℕ). feed r (bits x)) (take-append-drop k s)
+
+-- eight octets, as std makes a number of them
+pub big_endian : (s : List ℕ) → from_be_bytes w64 s ≡ word 0 8 s
+big_endian s = omega arith
+
+-- the chunk at place i, as a number
+pub chunk_word : (k i : ℕ) (s : List ℕ) → i < k → word 0 8 (get_or (first_chunks 8 k s) i []) ≡ word (8 * i) 8 s
+chunk_word zero i s h = absurd (omega arith)
+chunk_word (suc k) zero s h = word_take 0 8 8 s (le_refl 8)
+chunk_word (suc k) (suc i) s h =
+    let next : 8 + 8 * i ≡ 8 * suc i = omega arith in
+    chunk_word k i (drop 8 s) (omega arith) ∙ word_drop 8 (8 * i) 8 s ∙ ap (λ (j : ℕ). word j 8 s) next

@@ -76,3 +76,7 @@ feed_more r m i h =
     ap (λ (x : List ℕ). feed r (bits x)) (ap (λ (k : ℕ). take k m) (add-one i) ∙ take-suc m i 0 h)
     ∙ ap (feed r) (bits_append (take i m) (get_or m i 0 ∷ []))
     ∙ feed_append (bits (take i m)) (lows 8 (get_or m i 0) ++ []) r
+
+pub feed_none : (r : ℕ) → feed r (bits []) ≡ r
+unfolding bits feed
+feed_none r = refl

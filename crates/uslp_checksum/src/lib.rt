@@ -8,7 +8,7 @@ mod entries;
 mod words;
 
 use entries::TABLE;
-use words::{begin, by_halves, join, narrow, take_word, word_at};
+use words::{Wide, by_halves};
 
 // The register after a message, from any register, so that a message can come in parts. It goes by words of 64 bits, as specs/Words.antt explains.
 pub fn update(register: u16, message: &[u8]) -> u16
@@ -18,16 +18,16 @@ pub fn update(register: u16, message: &[u8]) -> u16
         return by_halves(register, message);
     }
     let head = message.len() % 8;
-    let mut wide = begin(register, message, head);
-    let mut i: usize = head + 8;
-    while i < message.len() {
-        wide = take_word(wide, word_at(message, i));
-        i += 8;
+    let mut wide = Wide::begin(register, message, head);
+    let (words, _) = message[head + 8..].as_chunks::<8>();
+    for word in words {
+        wide = wide.take_word(u64::from_be_bytes(*word));
     }
-    narrow(join(join(join(wide.a, wide.b), wide.c), wide.d))
+    wide.register()
 }
 
 // The register after a message, from all ones.
+#[tactic(auto, unfolding(crate::specs::Checksum::checksum_of))]
 pub fn checksum(message: &[u8]) -> u16
     ensures { result ≡ checksum_of message.now }
 {
@@ -41,24 +41,21 @@ pub fn update_by_table(register: u16, message: &[u8]) -> u16
     // copied here once: an index into the constant would copy all of it at each turn
     let table = TABLE;
     let mut current = register;
-    let mut i: usize = 0;
-    while i < message.len() {
-        let at = ((current >> 8) ^ (message[i] as u16)) as usize;
+    for octet in message {
+        let at = ((current >> 8) ^ (*octet as u16)) as usize;
         current = (current << 8) ^ table[at];
-        i += 1;
     }
     current
 }
 
 // Bit by bit.
+#[tactic(auto, unfolding(crate::specs::Checksum::checksum_of), using(crate::proofs::Message::feed_more, crate::proofs::Message::feed_none))]
 pub fn checksum_bitwise(message: &[u8]) -> u16
     ensures { result ≡ checksum_of message.now }
 {
     let mut current: u16 = 0xFFFF;
-    let mut i: usize = 0;
-    while i < message.len() {
-        current = octet_bitwise(current, message[i]);
-        i += 1;
+    for octet in message {
+        current = octet_bitwise(current, *octet);
     }
     current
 }
@@ -68,14 +65,12 @@ fn octet_bitwise(register: u16, octet: u8) -> u16
     ensures { result ≡ feed register (lows 8 octet) }
 {
     let mut current = register ^ ((octet as u16) << 8);
-    let mut k: usize = 0;
-    while k < 8 {
+    for k in 0..8usize {
         if current & 0x8000 != 0 {
             current = (current << 1) ^ 0x1021;
         } else {
             current = current << 1;
         }
-        k += 1;
     }
     current
 }

@@ -1,139 +1,106 @@
 // A console: it hears frames of one channel, and knows which never came, over a restart and from octets in blocks too.
 #![tactic(auto)]
 
+use std::fmt::Display;
 use std::io;
 use uslp_end_to_end::hear_many;
 use uslp_form::Form;
-use uslp_hearing::{FrameArrival, HearAnswer, handed_on, hear, hear_frame};
+use uslp_hearing::{FrameArrival, handed_on, hear, hear_frame};
 use uslp_intake::{IntakeAnswer, take_block};
-use uslp_kinds::{
-    BypassSequenceControlFlag, DoneAnswer, LengthAnswer, MAX_FRAME_LEN, NO_FECF, Refusal, written,
-};
-use uslp_record::{Channel, ChannelRecord, TotalAnswer};
+use uslp_kinds::{BypassSequenceControlFlag, MAX_FRAME_LEN, NO_FECF, Refusal, written};
+use uslp_record::{Channel, ChannelRecord};
 use uslp_saved::{MAX_FORM_LEN, restore, save};
 
-// Hears one buffer; the record that it answers is the one to go on with, unchanged on a refusal.
-fn take(rt: &impl Print, channels: ChannelRecord, octets: &[u8]) -> io::Result<ChannelRecord> {
-    let heard = hear(channels, octets, NO_FECF);
-    let answer = heard.answer;
+// Hears one buffer; the record that the call answers is the one to go on with, unchanged on a refusal.
+fn take(rt: &impl Print, channels: &mut ChannelRecord, octets: &[u8]) -> io::Result<()> {
+    let heard = hear(*channels, octets, NO_FECF);
+    *channels = heard.next;
     // a part of the octets; empty unless the frame is NEW
-    let reading = handed_on(answer, octets);
-    match answer {
-        HearAnswer::Done(arrival) => match arrival {
-            FrameArrival::New { gap, frame: _ } => say(rt, "new, missing before it: ", gap)?,
-            FrameArrival::Repeat => say(rt, "repeat, octets handed on: ", reading.len() as u64)?,
-            FrameArrival::Late => say(rt, "late, octets handed on: ", reading.len() as u64)?,
-        },
-        HearAnswer::Refused(refusal) => say(rt, "refused: ", refusal.number() as u64)?,
+    let reading = handed_on(heard.answer, octets);
+    match heard.answer {
+        Ok(FrameArrival::New { gap, .. }) => say(rt, "new, missing before it: ", gap),
+        Ok(FrameArrival::Repeat) => say(rt, "repeat, octets handed on: ", reading.len()),
+        Ok(FrameArrival::Late) => say(rt, "late, octets handed on: ", reading.len()),
+        Err(refusal) => say(rt, "refused: ", refusal.number()),
     }
-    Ok(heard.next)
 }
 
 // A replayed pass: frames end to end, heard in one call. What the reader refuses, and all behind it, was not heard.
-fn replay(rt: &impl Print, channels: ChannelRecord, pass: &[u8]) -> io::Result<ChannelRecord> {
-    let heard = hear_many(channels, pass, NO_FECF);
-    let tally = heard.tally;
-    let place = heard.place;
-    say(rt, "new in the pass: ", tally.new)?;
-    say(rt, "missing before them: ", tally.missing)?;
-    if place < pass.len() {
-        say(rt, "octets not heard: ", (pass.len() - place) as u64)?;
+fn replay(rt: &impl Print, channels: &mut ChannelRecord, pass: &[u8]) -> io::Result<()> {
+    let heard = hear_many(*channels, pass, NO_FECF);
+    *channels = heard.next;
+    say(rt, "new in the pass: ", heard.tally.new)?;
+    say(rt, "missing before them: ", heard.tally.missing)?;
+    if heard.place < pass.len() {
+        say(rt, "octets not heard: ", pass.len() - heard.place)?;
     }
-    Ok(heard.next)
+    Ok(())
 }
 
-// What is kept from one block to the next, beside the octets of the holding buffer.
+// What is kept from one block to the next: the promise of `take_block` names the buffer and how many octets it holds apart.
 #[derive(Drop)]
 struct Link {
     channels: ChannelRecord,
+    holding: [u8; MAX_FRAME_LEN],
     held: usize,
 }
 
-// Octets as the link delivers them, cut anywhere: each frame is heard as soon as it is whole.
-fn receive(rt: &impl Print, link: Link, holding: &mut [u8], block: &[u8]) -> io::Result<Link> {
-    let mut channels = link.channels;
-    let mut held = link.held;
-    let mut place: usize = 0;
-    loop {
-        let answer = take_block(holding, held, &block[place..], NO_FECF);
-        held = answer.held(held);
-        match answer {
-            IntakeAnswer::Frame { taken, frame } => {
-                let heard = hear_frame(channels, frame);
-                let arrival = heard.answer;
-                let reading = handed_on(arrival, holding);
-                say(rt, "from blocks, octets handed on: ", reading.len() as u64)?;
-                channels = heard.next;
-                if taken == 0 {
-                    return Ok(Link { channels, held });
+impl Link {
+    // Octets as the link delivers them, cut anywhere: each frame is heard as soon as it is whole.
+    fn receive(&mut self, rt: &impl Print, block: &[u8]) -> io::Result<()> {
+        let mut rest = block;
+        loop {
+            let answer = take_block(&mut self.holding, self.held, rest, NO_FECF);
+            self.held = answer.held(self.held);
+            match answer {
+                IntakeAnswer::Frame { taken, frame } => {
+                    let heard = hear_frame(self.channels, frame);
+                    self.channels = heard.next;
+                    let reading = handed_on(heard.answer, &self.holding);
+                    say(rt, "from blocks, octets handed on: ", reading.len())?;
+                    if taken == 0 {
+                        return Ok(());
+                    }
+                    rest = &rest[taken..];
                 }
-                place += taken;
+                // the block is used up, and what is held is no frame yet
+                IntakeAnswer::Waiting { .. } => return Ok(()),
+                // no more frames come until the console drops what is held
+                IntakeAnswer::Stopped { refusal, .. } | IntakeAnswer::Refused(refusal) => {
+                    return say(rt, "stopped, refused: ", refusal.number());
+                }
             }
-            // the block is used up, and what is held is no frame yet
-            IntakeAnswer::Waiting { taken: _, held: _ } => return Ok(Link { channels, held }),
-            // no more frames come until the console drops what is held
-            IntakeAnswer::Stopped {
-                taken: _,
-                held: _,
-                refusal,
-            } => return stopped(rt, channels, held, refusal),
-            IntakeAnswer::Refused(refusal) => return stopped(rt, channels, held, refusal),
         }
     }
-}
-
-fn stopped(
-    rt: &impl Print,
-    channels: ChannelRecord,
-    held: usize,
-    refusal: Refusal,
-) -> io::Result<Link> {
-    say(rt, "stopped, refused: ", refusal.number() as u64)?;
-    Ok(Link { channels, held })
 }
 
 // The octets outlive the record: written to a file before the console stops, and read from it when it starts.
-fn restart(rt: &impl Print, channels: ChannelRecord) -> io::Result<ChannelRecord> {
+fn restart(channels: &mut ChannelRecord) -> Result<usize, Refusal> {
     let mut saved = [0u8; MAX_FORM_LEN];
-    let length = save(channels, Form::One, &mut saved);
-    match length {
-        LengthAnswer::Done(n) => {
-            let restored = restore(ChannelRecord::new(), Form::One, written(length, &saved));
-            let answer = restored.answer;
-            match answer {
-                DoneAnswer::Done => say(rt, "restored, octets: ", n as u64)?,
-                DoneAnswer::Refused(refusal) => say(rt, "refused: ", refusal.number() as u64)?,
-            }
-            Ok(restored.next)
-        }
-        LengthAnswer::Refused(refusal) => {
-            say(rt, "refused: ", refusal.number() as u64)?;
-            Ok(channels)
-        }
-    }
+    let length = save(*channels, Form::One, &mut saved)?;
+    let restored = restore(ChannelRecord::new(), Form::One, written(Ok(length), &saved));
+    *channels = restored.next;
+    restored.answer?;
+    Ok(length)
 }
 
 // What the link delivers: two frames cut anyhow, a truncated one that stops the intake and is dropped, and one more.
 fn from_blocks(rt: &impl Print, channels: ChannelRecord) -> io::Result<ChannelRecord> {
-    let mut holding = [0u8; MAX_FRAME_LEN];
-    let mut link = Link { channels, held: 0 };
-    link = receive(rt, link, &mut holding, b"\xC1\x23\x48\xA6\x00")?;
-    link = receive(rt, link, &mut holding, b"")?;
-    link = receive(
+    let mut link = Link {
+        channels,
+        holding: [0; MAX_FRAME_LEN],
+        held: 0,
+    };
+    link.receive(rt, b"\xC1\x23\x48\xA6\x00")?;
+    link.receive(rt, b"")?;
+    link.receive(
         rt,
-        link,
-        &mut holding,
         b"\x0A\x01\x12\xE4\x0A\xFA\xC1\x23\x48\xA6\x00\x0A\x01\x13\xE4\x0A",
     )?;
-    say(rt, "octets held: ", link.held as u64)?;
-    link = receive(rt, link, &mut holding, b"\xFB\xC1\x23\x48\xA7")?;
+    say(rt, "octets held: ", link.held)?;
+    link.receive(rt, b"\xFB\xC1\x23\x48\xA7")?;
     link.held = 0;
-    link = receive(
-        rt,
-        link,
-        &mut holding,
-        b"\xC1\x23\x48\xA6\x00\x0A\x01\x14\xE4\x0A\xFC",
-    )?;
+    link.receive(rt, b"\xC1\x23\x48\xA6\x00\x0A\x01\x14\xE4\x0A\xFC")?;
     Ok(link.channels)
 }
 
@@ -142,53 +109,59 @@ fn main(rt: HostRuntime) -> io::Result<()> {
 }
 
 fn hear_all(rt: &impl Print) -> io::Result<()> {
-    let opened = ChannelRecord::new().open_channel(
-        Channel {
-            spacecraft_id: 0x1234,
-            vc_id: 5,
-            sequence_control_flag: BypassSequenceControlFlag::SequenceControlledQoS,
-        },
-        1,
-    );
-    let mut channels = opened.next;
-    channels = take(
+    let channel = Channel {
+        spacecraft_id: 0x1234,
+        vc_id: 5,
+        sequence_control_flag: BypassSequenceControlFlag::SequenceControlledQoS,
+    };
+    let mut channels = ChannelRecord::new().open_channel(channel, 1).next;
+    take(
         rt,
-        channels,
+        &mut channels,
         b"\xC1\x23\x48\xA6\x00\x0A\x01\x07\xE4\x0A\xF0",
     )?;
-    channels = take(
+    take(
         rt,
-        channels,
+        &mut channels,
         b"\xC1\x23\x48\xA6\x00\x0A\x01\x07\xE4\x0A\xF0",
     )?;
-    channels = take(
+    take(
         rt,
-        channels,
+        &mut channels,
         b"\xC1\x23\x48\xA6\x00\x07\x01\x08\xE4\x0A\xF1",
     )?;
-    channels = take(
+    take(
         rt,
-        channels,
+        &mut channels,
         b"\xC1\x23\x48\xA6\x00\x0A\x01\x0B\xE4\x0A\xF3",
     )?;
-    channels = restart(rt, channels)?;
-    channels = take(
+    say_answer(rt, "restored, octets: ", restart(&mut channels))?;
+    take(
         rt,
-        channels,
+        &mut channels,
         b"\xC1\x23\x48\xA6\x00\x0A\x01\x0D\xE4\x0A\xF5",
     )?;
-    channels = replay(
+    replay(
         rt,
-        channels,
+        &mut channels,
         b"\xC1\x23\x48\xA6\x00\x0A\x01\x0E\xE4\x0A\xF6\xC1\x23\x48\xA6\x00\x0A\x01\x10\xE4\x0A\xF8\xC1\x23\x48",
     )?;
     channels = from_blocks(rt, channels)?;
-    match channels.total_missing() {
-        TotalAnswer::Done(missing) => say(rt, "missing in all: ", missing),
-        TotalAnswer::Refused(refusal) => say(rt, "refused: ", refusal.number() as u64),
+    say_answer(rt, "missing in all: ", channels.total_missing())
+}
+
+// What a call answers: a number, or the number of its refusal.
+fn say_answer<T: Display + Drop>(
+    rt: &impl Print,
+    what: &str,
+    answer: Result<T, Refusal>,
+) -> io::Result<()> {
+    match answer {
+        Ok(number) => say(rt, what, number),
+        Err(refusal) => say(rt, "refused: ", refusal.number()),
     }
 }
 
-fn say(rt: &impl Print, what: &str, number: u64) -> io::Result<()> {
+fn say(rt: &impl Print, what: &str, number: impl Display + Drop) -> io::Result<()> {
     println!(rt; "{what}{number}")
 }

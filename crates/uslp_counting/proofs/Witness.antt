@@ -16,8 +16,6 @@ use Rattle.uslp_kinds.specs.declared.BypassSequenceControlFlag.TheVariants.{Sequ
 use Rattle.uslp_kinds.specs.declared.ProtocolControlCommandFlag.TheVariants.{TfdfContainsUserData}
 use Rattle.uslp_kinds.specs.declared.ConstructionRule.TheVariants.{NoSegmentation}
 use Rattle.uslp_kinds.specs.declared.UslpProtocolId.TheVariants.{UserDefinedOctetStream}
-use Rattle.uslp_kinds.specs.declared.FhpOrLvo.TheVariants as pointer
-use Rattle.uslp_kinds.specs.declared.OperationalControlField.TheVariants.{Absent}
 use Rattle.uslp_primary_header.specs.declared.PrimaryHeader.{PrimaryHeader}
 use Rattle.uslp_primary_header.proofs.Checks.{checks_done}
 use Rattle.uslp_data_field_header.specs.Field.{field_checking}
@@ -26,6 +24,7 @@ use Rattle.uslp_layout.proofs.Laws.{cond_le}
 use Rattle.uslp_record.specs.declared.Channel.{Channel}
 use Rattle.uslp_hearing.specs.Hearing.{channel_of}
 use Rattle.uslp_counting.specs.History.{Sender}
+use Rattle.std.specs.Prelude.{None}
 
 -- channel 5 of spacecraft 0x1234, by flag; the sequence-controlled one
 abbrev pub craft_by : BypassSequenceControlFlag → Channel
@@ -39,7 +38,7 @@ abbrev pub reading : List ℕ
 reading = 0x0A ∷ 0xF0 ∷ []
 
 abbrev pub whole : TransferFrameDataFieldHeader
-whole = record { construction_rule = NoSegmentation; uslp_protocol_id = UserDefinedOctetStream; fhp_or_lvo = pointer.Absent }
+whole = record { construction_rule = NoSegmentation; uslp_protocol_id = UserDefinedOctetStream; fhp_or_lvo = None }
 
 pub are_octets : AreOctets reading
 are_octets zero = lit< tt
@@ -69,7 +68,7 @@ module _ (flag : BypassSequenceControlFlag) (start width : ℕ) (narrow : width 
   unfoldable pub oven : Sender channel_of (craft_by flag) width managed
   oven = record {
     start = start;
-    fields = λ p. record { header = header_at p; field = whole; contents = reading; ocf = Absent };
+    fields = λ p. record { header = header_at p; field = whole; contents = reading; ocf = None };
     spare = λ p. 0;
     well_formed = λ p. record {
       header_fits = record {

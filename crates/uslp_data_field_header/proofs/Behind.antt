@@ -14,10 +14,9 @@ use Rattle.uslp_kinds.specs.Answers.{short}
 use Rattle.uslp_kinds.specs.declared.ConstructionRule.{ConstructionRule}
 use Rattle.uslp_kinds.specs.declared.ConstructionRule.TheVariants.{NoSegmentation}
 use Rattle.uslp_kinds.specs.declared.UslpProtocolId.TheVariants.{Idle}
-use Rattle.uslp_kinds.specs.declared.FhpOrLvo.{FhpOrLvo}
-use Rattle.uslp_kinds.specs.declared.FhpOrLvo.TheVariants.{Absent, Present}
 use Rattle.uslp_kinds.proofs.Behind.{Follows, Says, longer, shorter, short_row, length_row, same_end, says_row, says_end}
 use Rattle.uslp_data_field_header.specs.Field.{first_table, first_in, rule_in, number_in, pointer_in, with_protocol, field_reading}
+use Rattle.std.specs.Prelude.{Option, Some, None}
 
 -- a test of two parts, the first of which reads the same
 both_false : (b b' x x' : Bool) → b' ≡ b → (x ≡ false → x' ≡ false) → b && x ≡ false → b' && x' ≡ false
@@ -36,12 +35,12 @@ both_last true x h = h
 both_last false x h = absurd (false≢true h)
 
 -- a pointer is looked at only where the rule has one
-pointer_same : (b b' : Bool) (w w' : ℕ) → b' ≡ b → (b ≡ true → w' ≡ w) → cond b' (Present w') Absent ≡ cond b (Present w) Absent
-pointer_same true b' w w' e p = rw e (ap Present (p refl))
+pointer_same : (b b' : Bool) (w w' : ℕ) → b' ≡ b → (b ≡ true → w' ≡ w) → cond b' (Some w') None ≡ cond b (Some w) None
+pointer_same true b' w w' e p = rw e (ap Some (p refl))
 pointer_same false b' w w' e p = rw e
 
 -- what follows the length is not SHORT_SOURCE
-protocol_other : (rule : ConstructionRule) (n : ℕ) (p : FhpOrLvo) (b c : Bool) → ltb n 9 ≡ b → eqb n 31 ≡ c → short (with_protocol rule n p) ≡ false
+protocol_other : (rule : ConstructionRule) (n : ℕ) (p : Option ℕ) (b c : Bool) → ltb n 9 ≡ b → eqb n 31 ≡ c → short (with_protocol rule n p) ≡ false
 protocol_other rule n p true c e f = rw e
 protocol_other rule n p false true e f = rw (e, f)
 protocol_other rule n p false false e f = rw (e, f)

@@ -8,14 +8,13 @@ use Rattle.uslp_kinds.specs.Outcome.{Outcome, done, refused, first_of}
 use Rattle.uslp_kinds.specs.Kinds.{rule_number, fixed_length}
 use Rattle.uslp_kinds.specs.declared.ConstructionRule.{ConstructionRule}
 use Rattle.uslp_kinds.specs.declared.UslpProtocolId.{UslpProtocolId}
-use Rattle.uslp_kinds.specs.declared.FhpOrLvo.{FhpOrLvo}
-use Rattle.uslp_kinds.specs.declared.FhpOrLvo.TheVariants.{Absent, Present}
 use Rattle.uslp_data_field_header.specs.Field.{pointer_bad, len_field, field_making, field_checks, field_checking}
 use Rattle.uslp_data_field_header.specs.declared.TransferFrameDataFieldHeader.{TransferFrameDataFieldHeader}
 use Rattle.uslp_kinds.proofs.Outcomes.{done_one, passed, failed}
+use Rattle.std.specs.Prelude.{Option, Some, None}
 
 -- making a header is checking it
-pub making : (rule : ConstructionRule) (id : UslpProtocolId) (pointer : FhpOrLvo)
+pub making : (rule : ConstructionRule) (id : UslpProtocolId) (pointer : Option ℕ)
     → field_making rule id pointer ≡ field_checking (record { construction_rule = rule; uslp_protocol_id = id; fhp_or_lvo = pointer })
 unfolding field_making field_checking
 making rule id pointer = refl
@@ -58,16 +57,16 @@ module _ (f : TransferFrameDataFieldHeader) (ok : field_checking f ≡ done f) w
   unfolding field_checking
   good_pointer = (checks_good f [] (done f) ok).0
 
-  pub pointer_fixed : (p : ℕ) → f.fhp_or_lvo ≡ Present p → fixed_length f.construction_rule ≡ true
+  pub pointer_fixed : (p : ℕ) → f.fhp_or_lvo ≡ Some p → fixed_length f.construction_rule ≡ true
   pointer_fixed p h = not-false _ (sym (ap (pointer_bad f.construction_rule) h) ∙ good_pointer)
 
-  pub none_other : f.fhp_or_lvo ≡ Absent → fixed_length f.construction_rule ≡ false
+  pub none_other : f.fhp_or_lvo ≡ None → fixed_length f.construction_rule ≡ false
   none_other h = sym (ap (pointer_bad f.construction_rule) h) ∙ good_pointer
 
-  pub pointer_len : (p : ℕ) → f.fhp_or_lvo ≡ Present p → len_field f ≡ 3
+  pub pointer_len : (p : ℕ) → f.fhp_or_lvo ≡ Some p → len_field f ≡ 3
   pointer_len p h = ap (λ (b : Bool). cond b 3 1) (pointer_fixed p h)
 
-  pub none_len : f.fhp_or_lvo ≡ Absent → len_field f ≡ 1
+  pub none_len : f.fhp_or_lvo ≡ None → len_field f ≡ 1
   none_len h = ap (λ (b : Bool). cond b 3 1) (none_other h)
 
 pub checks_passed : (f : TransferFrameDataFieldHeader) {A : Type 0} (rest : List (Bool × Outcome A)) (last : Outcome A)

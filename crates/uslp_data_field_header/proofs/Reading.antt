@@ -16,9 +16,8 @@ use Rattle.uslp_kinds.specs.Kinds.{rules, rule_of, fixed_length, protocol_of}
 use Rattle.uslp_kinds.specs.declared.ConstructionRule.{ConstructionRule}
 use Rattle.uslp_kinds.specs.declared.ConstructionRule.TheVariants.{NoSegmentation}
 use Rattle.uslp_kinds.specs.declared.UslpProtocolId.{UslpProtocolId}
-use Rattle.uslp_kinds.specs.declared.FhpOrLvo.{FhpOrLvo}
-use Rattle.uslp_kinds.specs.declared.FhpOrLvo.TheVariants.{Absent, Present}
 use Rattle.uslp_data_field_header.specs.Field.{first_in, rule_in, number_in, pointer_in, with_protocol, field_reading}
+use Rattle.std.specs.Prelude.{Option, Some, None}
 
 -- the first octet's high three bits and low five
 pub rule_at : (s : List ℕ) → rule_in s ≡ rule_of (get_or s 0 0 / 32)
@@ -49,16 +48,16 @@ module _ (s : List ℕ) (one : 1 ≤ length s) (rule : ConstructionRule) (n : �
     unfolding field_reading
     reading_short h = rw (le-ltb _ _ one, has, fixed, lt-ltb _ _ h)
 
-    pub reading_pointer : (p : ℕ) → word 1 2 s ≡ p → 3 ≤ length s → field_reading s ≡ with_protocol rule n (Present p)
+    pub reading_pointer : (p : ℕ) → word 1 2 s ≡ p → 3 ≤ length s → field_reading s ≡ with_protocol rule n (Some p)
     unfolding field_reading
     reading_pointer p e h = rw (le-ltb _ _ one, has, low, e, fixed, le-ltb _ _ h)
 
-  pub reading_other : fixed_length rule ≡ false → field_reading s ≡ with_protocol rule n Absent
+  pub reading_other : fixed_length rule ≡ false → field_reading s ≡ with_protocol rule n None
   unfolding field_reading
   reading_other other = rw (le-ltb _ _ one, has, low, other)
 
 -- the protocol id of a known number, and the refusal of one that is not known
-module _ (rule : ConstructionRule) (n : ℕ) (pointer : FhpOrLvo) where
+module _ (rule : ConstructionRule) (n : ℕ) (pointer : Option ℕ) where
   pub with_known : {id : UslpProtocolId} → protocol_of n ≡ done id
       → with_protocol rule n pointer ≡ done (record { construction_rule = rule; uslp_protocol_id = id; fhp_or_lvo = pointer })
   with_known e = rw e

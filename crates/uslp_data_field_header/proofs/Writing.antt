@@ -13,10 +13,10 @@ use Rattle.uslp_octets.proofs.Laws.{pack_append, cons_eq}
 use Rattle.uslp_kinds.specs.Outcome.{done, refused, leaving}
 use Rattle.uslp_kinds.specs.Kinds.{rule_number, protocol_number, fixed_length}
 use Rattle.uslp_kinds.proofs.Cases.{rule_lt, protocol_lt}
-use Rattle.uslp_kinds.specs.declared.FhpOrLvo.TheVariants.{Absent, Present}
 use Rattle.uslp_data_field_header.specs.Field.{first_table, field_table, len_field, field_checking, field_writing}
 use Rattle.uslp_data_field_header.specs.declared.TransferFrameDataFieldHeader.{TransferFrameDataFieldHeader}
 use Rattle.uslp_data_field_header.proofs.Checks.{pointer_len, none_len, checks_refused, checks_passed}
+use Rattle.std.specs.Prelude.{Some, None}
 
 module _ (f : TransferFrameDataFieldHeader) (s : List ℕ) where
   pub writing_refused : {k : ℕ} {vs : List ℕ} → field_checking f ≡ refused k vs → field_writing f s ≡ leaving (refused k vs) s
@@ -48,10 +48,10 @@ module _ (f : TransferFrameDataFieldHeader) where
   first_lt : first_octet f < 256
   first_lt = omega (arith, rule_lt f.construction_rule, protocol_lt f.uslp_protocol_id)
 
-  pub octets_none : f.fhp_or_lvo ≡ Absent → pack (field_table f) ≡ first_octet f ∷ []
+  pub octets_none : f.fhp_or_lvo ≡ None → pack (field_table f) ≡ first_octet f ∷ []
   octets_none e = rw e (cons_eq (omega (arith, first_lt)) refl)
 
-  pub octets_pointer : (p : ℕ) → f.fhp_or_lvo ≡ Present p → p < 65536 → pack (field_table f) ≡ first_octet f ∷ octets 2 p
+  pub octets_pointer : (p : ℕ) → f.fhp_or_lvo ≡ Some p → p < 65536 → pack (field_table f) ≡ first_octet f ∷ octets 2 p
   octets_pointer p e h =
       rw e
       (pack_append "pointer" 1 2 p (first_table f.construction_rule f.uslp_protocol_id) refl h
@@ -72,13 +72,13 @@ stored_pointer (a ∷ b ∷ c ∷ s) x p h = refl
 -- so these stores are the writing
 module _ (f : TransferFrameDataFieldHeader) (s : List ℕ) (ok : field_checking f ≡ done f) (n : ℕ) (len : n ≡ len_field f) (room : n ≤ length s)
     (x : ℕ) (first : x ≡ first_octet f) where
-  pub writing_none : f.fhp_or_lvo ≡ Absent → leaving (done n) (set s 0 x) ≡ field_writing f s
+  pub writing_none : f.fhp_or_lvo ≡ None → leaving (done n) (set s 0 x) ≡ field_writing f s
   writing_none e =
       let one : n ≡ 1 = len ∙ none_len f ok e in
       rw (writing_done f s ok n len room, octets_none f e, one, ← first)
       (ap (leaving (done 1)) (stored_first s x (omega arith)))
 
-  pub writing_pointer : (p : ℕ) (q : List ℕ) → f.fhp_or_lvo ≡ Present p → p < 65536 → q ≡ octets (length (mid_of 1 2 (set s 0 x))) p
+  pub writing_pointer : (p : ℕ) (q : List ℕ) → f.fhp_or_lvo ≡ Some p → p < 65536 → q ≡ octets (length (mid_of 1 2 (set s 0 x))) p
       → leaving (done n) (put_mid 1 2 (set s 0 x) q) ≡ field_writing f s
   writing_pointer p q e h put =
       let three : n ≡ 3 = len ∙ pointer_len f ok p e in

@@ -1,31 +1,22 @@
 -- The data field header: CCSDS 732.1-B's table of bit fields (docs/RULES.md, section 1.2), and what each call answers, in the orders of section 3.
-use Rattle.std.specs.Prelude.{◌≡◌, ℕ, ◌<◌, Bool, not, ◌&&◌, cond, List, [], ◌∷◌, ◌++◌, length, drop, ltb}
+use Rattle.std.specs.Prelude.{◌≡◌, ℕ, ◌<◌, Bool, not, ◌&&◌, cond, List, [], ◌∷◌, ◌++◌, length, drop, ltb, Option, Some, None}
 use Rattle.uslp_octets.specs.Octets.{pack, unpack, named, word}
 use Rattle.uslp_octets.specs.Octets as octets
 use Rattle.uslp_kinds.specs.Outcome.{Outcome, done, refused, and_then, Written, only_if_done, first_of}
 use Rattle.uslp_kinds.specs.Kinds.{rule_number, rule_of, fixed_length, protocol_number, protocol_of}
-use Rattle.uslp_kinds.specs.Answers.{refusal}
 use Rattle.uslp_kinds.specs.declared.ConstructionRule.{ConstructionRule}
 use Rattle.uslp_kinds.specs.declared.ConstructionRule.TheVariants.{NoSegmentation}
 use Rattle.uslp_kinds.specs.declared.UslpProtocolId.{UslpProtocolId}
 use Rattle.uslp_kinds.specs.declared.UslpProtocolId.TheVariants.{Idle}
-use Rattle.uslp_kinds.specs.declared.FhpOrLvo.{FhpOrLvo}
-use Rattle.uslp_kinds.specs.declared.FhpOrLvo.TheVariants.{Absent, Present}
 use Rattle.uslp_data_field_header.specs.declared.TransferFrameDataFieldHeader.{TransferFrameDataFieldHeader}
-use Rattle.uslp_data_field_header.specs.declared.DataFieldHeaderAnswer.{DataFieldHeaderAnswer}
-use Rattle.uslp_data_field_header.specs.declared.DataFieldHeaderAnswer.TheVariants as field_answer
-
-abbrev pub paper_field : DataFieldHeaderAnswer → Outcome TransferFrameDataFieldHeader
-paper_field (field_answer.Done f) = done f
-paper_field (field_answer.Refused r) = refusal r
 
 -- the fields of the first octet from the first bit on, each with its bits; then two octets of pointer, or none
 abbrev pub first_table : ConstructionRule → UslpProtocolId → List octets.BitField
 first_table rule id = ("construction rule", 3, rule_number rule) ∷ ("protocol id", 5, protocol_number id) ∷ []
 
-abbrev pub pointer_row : FhpOrLvo → List octets.BitField
-pointer_row Absent = []
-pointer_row (Present p) = ("pointer", 16, p) ∷ []
+abbrev pub pointer_row : Option ℕ → List octets.BitField
+pointer_row None = []
+pointer_row (Some p) = ("pointer", 16, p) ∷ []
 
 abbrev pub field_table : TransferFrameDataFieldHeader → List octets.BitField
 field_table f = first_table f.construction_rule f.uslp_protocol_id ++ pointer_row f.fhp_or_lvo
@@ -38,12 +29,12 @@ abbrev pub len_field : TransferFrameDataFieldHeader → ℕ
 len_field f = len_for f.construction_rule
 
 -- a pointer with rules 3 to 7, or none with 0 to 2
-abbrev pub pointer_bad : ConstructionRule → FhpOrLvo → Bool
-pointer_bad rule Absent = fixed_length rule
-pointer_bad rule (Present p) = not (fixed_length rule)
+abbrev pub pointer_bad : ConstructionRule → Option ℕ → Bool
+pointer_bad rule None = fixed_length rule
+pointer_bad rule (Some p) = not (fixed_length rule)
 
 -- making a data field header refuses 9
-unfoldable pub field_making : ConstructionRule → UslpProtocolId → FhpOrLvo → Outcome TransferFrameDataFieldHeader
+unfoldable pub field_making : ConstructionRule → UslpProtocolId → Option ℕ → Outcome TransferFrameDataFieldHeader
 field_making rule id pointer =
     first_of
     ((pointer_bad rule pointer, refused 9 (rule_number rule ∷ [])) ∷ [])
@@ -66,11 +57,11 @@ rule_in s = rule_of (named "construction rule" (first_in s))
 abbrev pub number_in : List ℕ → ℕ
 number_in s = named "protocol id" (first_in s)
 
-abbrev pub pointer_in : List ℕ → FhpOrLvo
-pointer_in s = cond (fixed_length (rule_in s)) (Present (word 1 2 s)) Absent
+abbrev pub pointer_in : List ℕ → Option ℕ
+pointer_in s = cond (fixed_length (rule_in s)) (Some (word 1 2 s)) None
 
 -- the header of this rule and pointer with the protocol id of this number: 5 where it is not known
-abbrev pub with_protocol : ConstructionRule → ℕ → FhpOrLvo → Outcome TransferFrameDataFieldHeader
+abbrev pub with_protocol : ConstructionRule → ℕ → Option ℕ → Outcome TransferFrameDataFieldHeader
 with_protocol rule number pointer =
     and_then (protocol_of number)
     (λ (id : UslpProtocolId). done (record { construction_rule = rule; uslp_protocol_id = id; fhp_or_lvo = pointer }))
@@ -94,5 +85,5 @@ field_writing f s =
 
 -- one that the layout can carry: a pointer fits its 16 bits, the machine's own bound, and the check of writing passes
 pub record Fitting (f : TransferFrameDataFieldHeader) : Type 0 where
-  pub pointer_fits : (p : ℕ) → f.fhp_or_lvo ≡ Present p → p < 65536
+  pub pointer_fits : (p : ℕ) → f.fhp_or_lvo ≡ Some p → p < 65536
   pub checks_pass : field_checking f ≡ done f

@@ -3,25 +3,17 @@
 
 ghost use Rattle.std.specs.Prelude.{◌≡◌};
 ghost use Rattle.uslp_kinds.specs.Outcome.{done, leaving};
-ghost use Rattle.uslp_kinds.specs.Answers.{paper_length};
-ghost use Rattle.uslp_data_field_header.specs.Field.{paper_field, pointer_bad, len_field, field_making, with_protocol, field_checking, field_reading, field_writing};
+ghost use Rattle.uslp_data_field_header.specs.Field.{pointer_bad, len_field, field_making, with_protocol, field_checking, field_reading, field_writing};
+ghost use Rattle.uslp_kinds.specs.Answers.{paper};
 
-use uslp_kinds::{
-    ConstructionRule, FhpOrLvo, LengthAnswer, ProtocolIdAnswer, Refusal, UslpProtocolId,
-};
-use uslp_octets::{be_u16, put_be_number};
+use uslp_kinds::{ConstructionRule, Refusal, UslpProtocolId};
+use uslp_octets::put_be_number;
 
-#[derive(Clone, Copy)]
+#[derive(Clone, Copy, Debug, PartialEq, Eq)]
 pub struct TransferFrameDataFieldHeader {
     pub construction_rule: ConstructionRule,
     pub uslp_protocol_id: UslpProtocolId,
-    pub fhp_or_lvo: FhpOrLvo,
-}
-
-#[derive(Clone, Copy)]
-pub enum DataFieldHeaderAnswer {
-    Done(TransferFrameDataFieldHeader),
-    Refused(Refusal),
+    pub fhp_or_lvo: Option<u16>,
 }
 
 impl TransferFrameDataFieldHeader {
@@ -30,14 +22,14 @@ impl TransferFrameDataFieldHeader {
     pub fn new(
         construction_rule: ConstructionRule,
         uslp_protocol_id: UslpProtocolId,
-        fhp_or_lvo: FhpOrLvo,
-    ) -> DataFieldHeaderAnswer
-        ensures { paper_field result ≡ field_making construction_rule uslp_protocol_id fhp_or_lvo }
+        fhp_or_lvo: Option<u16>,
+    ) -> Result<TransferFrameDataFieldHeader, Refusal>
+        ensures { paper result ≡ field_making construction_rule uslp_protocol_id fhp_or_lvo }
     {
         if pointer_bad(construction_rule, fhp_or_lvo) {
-            return DataFieldHeaderAnswer::Refused(Refusal::BadPointer(construction_rule));
+            return Err(Refusal::BadPointer(construction_rule));
         }
-        DataFieldHeaderAnswer::Done(TransferFrameDataFieldHeader {
+        Ok(TransferFrameDataFieldHeader {
             construction_rule,
             uslp_protocol_id,
             fhp_or_lvo,
@@ -56,7 +48,7 @@ impl TransferFrameDataFieldHeader {
         self.uslp_protocol_id
     }
 
-    pub fn fhp_or_lvo(self) -> FhpOrLvo
+    pub fn fhp_or_lvo(self) -> Option<u16>
         ensures { result ≡ self.fhp_or_lvo }
     {
         self.fhp_or_lvo
@@ -65,8 +57,7 @@ impl TransferFrameDataFieldHeader {
     pub fn len_header(self) -> usize
         ensures { result ≡ len_field self }
     {
-        let rule = self.construction_rule;
-        if rule.applicable_to_fixed_len_tfdz() {
+        if self.construction_rule.applicable_to_fixed_len_tfdz() {
             3
         } else {
             1
@@ -75,89 +66,79 @@ impl TransferFrameDataFieldHeader {
 
     // The header itself where it can be written. Refuses BAD_POINTER with the rule.
     #[tactic(auto, unfolding(crate::specs::Field::field_checking))]
-    pub fn checked(self) -> DataFieldHeaderAnswer
-        ensures { paper_field result ≡ field_checking self }
+    pub fn checked(self) -> Result<TransferFrameDataFieldHeader, Refusal>
+        ensures { paper result ≡ field_checking self }
     {
-        let rule = self.construction_rule;
-        let pointer = self.fhp_or_lvo;
-        if pointer_bad(rule, pointer) {
-            return DataFieldHeaderAnswer::Refused(Refusal::BadPointer(rule));
+        if pointer_bad(self.construction_rule, self.fhp_or_lvo) {
+            return Err(Refusal::BadPointer(self.construction_rule));
         }
-        DataFieldHeaderAnswer::Done(self)
+        Ok(self)
     }
 
     // Refuses SHORT_SOURCE (one octet, then three for rules 0 to 2), then BAD_PROTOCOL.
     #[tactic(auto, unfolding(crate::specs::Field::field_reading))]
-    pub fn from_bytes(buf: &[u8]) -> DataFieldHeaderAnswer
-        ensures { paper_field result ≡ field_reading buf.now }
+    pub fn from_bytes(buf: &[u8]) -> Result<TransferFrameDataFieldHeader, Refusal>
+        ensures { paper result ≡ field_reading buf.now }
     {
         let found = buf.len();
         if found < 1 {
-            return DataFieldHeaderAnswer::Refused(Refusal::ShortSource { found, expected: 1 });
+            return Err(Refusal::ShortSource { found, expected: 1 });
         }
         let first = buf[0];
-        let rule = ConstructionRule::from_number(first / 32);
+        let rule = ConstructionRule::from(first / 32);
         if rule.applicable_to_fixed_len_tfdz() {
             if found < 3 {
-                return DataFieldHeaderAnswer::Refused(Refusal::ShortSource { found, expected: 3 });
+                return Err(Refusal::ShortSource { found, expected: 3 });
             }
-            return with_protocol(rule, first % 32, FhpOrLvo::Present(be_u16(buf[1], buf[2])));
+            return with_protocol(rule, first % 32, Some(u16::from_be_bytes([buf[1], buf[2]])));
         }
-        with_protocol(rule, first % 32, FhpOrLvo::Absent)
+        with_protocol(rule, first % 32, None)
     }
 
     // Refuses BAD_POINTER, then SHORT_TARGET.
     #[tactic(auto, unfolding(crate::specs::Field::field_writing, crate::specs::Field::field_checking))]
-    pub fn write_to_slice(self, buf: &mut [u8]) -> LengthAnswer
-        ensures { leaving (paper_length result) buf.new ≡ field_writing self buf.old }
+    pub fn write_to_slice(self, buf: &mut [u8]) -> Result<usize, Refusal>
+        ensures { leaving (paper result) buf.new ≡ field_writing self buf.old }
     {
-        match self.checked() {
-            DataFieldHeaderAnswer::Done(header) => put_header(header, buf),
-            DataFieldHeaderAnswer::Refused(refusal) => LengthAnswer::Refused(refusal),
-        }
+        put_header(self.checked()?, buf)
     }
 }
 
-fn pointer_bad(rule: ConstructionRule, pointer: FhpOrLvo) -> bool
+fn pointer_bad(rule: ConstructionRule, pointer: Option<u16>) -> bool
     ensures { result ≡ pointer_bad rule pointer }
 {
-    match pointer {
-        FhpOrLvo::Absent => rule.applicable_to_fixed_len_tfdz(),
-        FhpOrLvo::Present(_) => !rule.applicable_to_fixed_len_tfdz(),
-    }
+    pointer.is_some() != rule.applicable_to_fixed_len_tfdz()
 }
 
 // The header with the protocol id of this number, if it is known.
-fn with_protocol(rule: ConstructionRule, number: u8, pointer: FhpOrLvo) -> DataFieldHeaderAnswer
-    ensures { paper_field result ≡ with_protocol rule number pointer }
+fn with_protocol(
+    rule: ConstructionRule,
+    number: u8,
+    pointer: Option<u16>,
+) -> Result<TransferFrameDataFieldHeader, Refusal>
+    ensures { paper result ≡ with_protocol rule number pointer }
 {
-    match UslpProtocolId::from_number(number) {
-        ProtocolIdAnswer::Done(id) => DataFieldHeaderAnswer::Done(TransferFrameDataFieldHeader {
-            construction_rule: rule,
-            uslp_protocol_id: id,
-            fhp_or_lvo: pointer,
-        }),
-        ProtocolIdAnswer::Refused(refusal) => DataFieldHeaderAnswer::Refused(refusal),
-    }
+    Ok(TransferFrameDataFieldHeader {
+        construction_rule: rule,
+        uslp_protocol_id: UslpProtocolId::try_from(number)?,
+        fhp_or_lvo: pointer,
+    })
 }
 
 // A header that can be written, over the front of the octets.
 #[tactic(auto, unfolding(crate::specs::Field::field_writing, crate::specs::Field::field_checking))]
-fn put_header(header: TransferFrameDataFieldHeader, buf: &mut [u8]) -> LengthAnswer
+fn put_header(header: TransferFrameDataFieldHeader, buf: &mut [u8]) -> Result<usize, Refusal>
     requires { field_checking header ≡ done header }
-    ensures { leaving (paper_length result) buf.new ≡ field_writing header buf.old }
+    ensures { leaving (paper result) buf.new ≡ field_writing header buf.old }
 {
-    let rule = header.construction_rule;
-    let id = header.uslp_protocol_id;
-    let pointer = header.fhp_or_lvo;
     let found = buf.len();
     let expected = header.len_header();
     if found < expected {
-        return LengthAnswer::Refused(Refusal::ShortTarget { found, expected });
+        return Err(Refusal::ShortTarget { found, expected });
     }
-    buf[0] = rule.number() * 32 + id.number();
-    if let FhpOrLvo::Present(value) = pointer {
-        put_be_number(value as u64, &mut buf[1..3]);
+    buf[0] = u8::from(header.construction_rule) * 32 + u8::from(header.uslp_protocol_id);
+    if let Some(pointer) = header.fhp_or_lvo {
+        put_be_number(u64::from(pointer), &mut buf[1..3]);
     }
-    LengthAnswer::Done(expected)
+    Ok(expected)
 }

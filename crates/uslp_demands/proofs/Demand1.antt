@@ -14,7 +14,6 @@ use Rattle.uslp_kinds.specs.Answers.{refusal}
 use Rattle.uslp_kinds.proofs.Outcomes.{not_done, refused_keeps}
 use Rattle.uslp_kinds.specs.declared.ManagedParameters.{ManagedParameters}
 use Rattle.uslp_kinds.specs.declared.Refusal.{Refusal}
-use Rattle.uslp_kinds.specs.declared.LengthAnswer.TheVariants.{Refused}
 use Rattle.uslp_primary_header.specs.Header.{table, len_header, header_checks, header_writing, count_setting, length_setting}
 use Rattle.uslp_primary_header.specs.declared.PrimaryHeader.{PrimaryHeader}
 use Rattle.uslp_data_field_header.specs.Field.{field_table, len_field, field_checks, field_writing}
@@ -24,19 +23,15 @@ use Rattle.uslp_writer.specs.Frame.{total, frame_checks, frame_octets, frame_wri
 use Rattle.uslp_writer.specs.Reserved.{reservation, reserved_octets, reserving, finish_length, area_in, filled}
 use Rattle.uslp_writer.specs.declared.TransferFrameCreator.{TransferFrameCreator}
 use Rattle.uslp_writer.specs.declared.TransferFrameCreatorWithReservedData.{TransferFrameCreatorWithReservedData}
-use Rattle.uslp_writer.specs.declared.ReservedAnswer.TheVariants as reserved_answer
-use Rattle.uslp_kinds.specs.declared.DoneAnswer.TheVariants as done_answer
 use Rattle.uslp_reader.specs.Reader.{frame_reading}
 use Rattle.uslp_reader.specs.declared.TransferFrame.{TransferFrame}
 use Rattle.uslp_record.specs.Record.{Kept, keeping}
 use Rattle.uslp_record.specs.Judging.{judging}
 use Rattle.uslp_record.specs.declared.Channel.{Channel}
 use Rattle.uslp_record.specs.declared.ChannelRecord.{ChannelRecord}
-use Rattle.uslp_record.specs.declared.ArrivalAnswer.TheVariants as arrival_answer
 use Rattle.uslp_record.proofs.Back.{keeping_one, applied_keeps}
 use Rattle.uslp_record.proofs.Ways.{opening_ways, closing_ways}
 use Rattle.uslp_hearing.specs.Hearing.{channel_of, judged_by}
-use Rattle.uslp_hearing.specs.declared.HearAnswer.TheVariants as hear_answer
 use Rattle.uslp_end_to_end.specs.Many.{KeptMany}
 use Rattle.uslp_end_to_end.specs.declared.ManyHearing.{ManyHearing}
 use Rattle.uslp_end_to_end.proofs.Stops.{refused_first}
@@ -63,6 +58,7 @@ use Rattle.uslp_demands.proofs.OfIntake.{Takes}
 use Rattle.uslp_demands.proofs.OfSaved.{fn_save, fn_restore}
 use Rattle.uslp_demands.proofs.OfConverting.{fn_convert}
 use Rattle.uslp_demands.proofs.OfListing.{fn_list}
+use Rattle.std.specs.Prelude.{Err}
 
 -- the last check of a writing: room
 abbrev short : {A : Type 0} → List ℕ → ℕ → List (Bool × Outcome A)
@@ -70,7 +66,7 @@ short s n = (ltb (length s) n, refused 2 (length s ∷ n ∷ [])) ∷ []
 
 module _ (r : Refusal) (s : MutBor (List ℕ)) (left : List ℕ) where
   pub header_kept : (κs : Lfts 1) (h : PrimaryHeader)
-      → Allows of_header.fn_write_to_slice κs (h, (s, tt)) (Refused r, (tt, (left, tt)))
+      → Allows of_header.fn_write_to_slice κs (h, (s, tt)) (Err r, (tt, (left, tt)))
       → left ≡ s.now
   unfolding header_writing
   header_kept κs h e =
@@ -78,7 +74,7 @@ module _ (r : Refusal) (s : MutBor (List ℕ)) (left : List ℕ) where
       s.now (sym e)
 
   pub field_kept : (κs : Lfts 1) (f : TransferFrameDataFieldHeader)
-      → Allows of_field.fn_write_to_slice κs (f, (s, tt)) (Refused r, (tt, (left, tt)))
+      → Allows of_field.fn_write_to_slice κs (f, (s, tt)) (Err r, (tt, (left, tt)))
       → left ≡ s.now
   unfolding field_writing
   field_kept κs f e =
@@ -86,7 +82,7 @@ module _ (r : Refusal) (s : MutBor (List ℕ)) (left : List ℕ) where
       s.now (sym e)
 
   pub frame_kept : (κs : Lfts 2) (c : TransferFrameCreator) (d : Bor (List ℕ))
-      → Allows fn_write_to_slice κs (c, (d, (s, tt))) (Refused r, (tt, (tt, (left, tt))))
+      → Allows fn_write_to_slice κs (c, (d, (s, tt))) (Err r, (tt, (tt, (left, tt))))
       → left ≡ s.now
   unfolding frame_writing
   frame_kept κs c d e =
@@ -94,28 +90,28 @@ module _ (r : Refusal) (s : MutBor (List ℕ)) (left : List ℕ) where
       (frame_octets c d.now ++ drop (total c (length d.now)) s.now) s.now (sym e)
 
   pub reserve_kept : (κs : Lfts 1) (c : TransferFrameCreator) (n : ℕ)
-      → Allows fn_new κs (c, (n, (s, tt))) (reserved_answer.Refused r, (tt, (tt, (left, tt))))
+      → Allows fn_new κs (c, (n, (s, tt))) (Err r, (tt, (tt, (left, tt))))
       → left ≡ s.now
   unfolding reserving
   reserve_kept κs c n e =
       refused_keeps (first_of (frame_checks c n ++ short s.now (total c n)) (done (reservation c n))) (reserved_octets c n s.now) s.now (sym e)
 
   pub fill_kept : (κs : Lfts 2) (k : TransferFrameCreatorWithReservedData) (d : Bor (List ℕ))
-      → Allows fn_fill κs (k, (d, (s, tt))) (Refused r, (tt, (tt, (left, tt))))
+      → Allows fn_fill κs (k, (d, (s, tt))) (Err r, (tt, (tt, (left, tt))))
       → left ≡ s.now
   fill_kept κs k d e =
       refused_keeps (and_then (finish_length k (length s.now)) (λ (n : ℕ). done (min (length d.now) k.data_size)))
       (filled k (overlaid d.now (area_in k s.now)) s.now) s.now (sym e)
 
   pub finish_kept : (κs : Lfts 1) (k : TransferFrameCreatorWithReservedData)
-      → Allows fn_finish κs (k, (s, tt)) (Refused r, (tt, (left, tt)))
+      → Allows fn_finish κs (k, (s, tt)) (Err r, (tt, (left, tt)))
       → left ≡ s.now
   finish_kept κs k e =
       refused_keeps (finish_length k (length s.now))
       (cond k.has_fecf (with_fecf true (take (k.len_written - 2) s.now) ++ drop k.len_written s.now) s.now) s.now (sym e)
 
   pub list_kept : (κs : Lfts 2) (recording : Bor (List ℕ))
-      → Allows fn_list κs (recording, (s, tt)) (Refused r, (tt, (left, tt)))
+      → Allows fn_list κs (recording, (s, tt)) (Err r, (tt, (left, tt)))
       → left ≡ s.now
   unfolding listing_over
   list_kept κs recording e =
@@ -124,12 +120,12 @@ module _ (r : Refusal) (s : MutBor (List ℕ)) (left : List ℕ) where
       (sym e)
 
   pub save_kept : (κs : Lfts 1) (q : ChannelRecord) (f : Form)
-      → Allows fn_save κs (q, (f, (s, tt))) (Refused r, (tt, (tt, (left, tt))))
+      → Allows fn_save κs (q, (f, (s, tt))) (Err r, (tt, (tt, (left, tt))))
       → left ≡ s.now
   save_kept κs q f e = saving_kept f q s.now (sym e)
 
   pub convert_kept : (κs : Lfts 2) (f g : Form) (octets : Bor (List ℕ))
-      → Allows fn_convert κs (f, (octets, (g, (s, tt)))) (Refused r, (tt, (tt, (tt, (left, tt)))))
+      → Allows fn_convert κs (f, (octets, (g, (s, tt)))) (Err r, (tt, (tt, (tt, (left, tt)))))
       → left ≡ s.now
   convert_kept κs f g octets e = converting_kept f g octets.now s.now e
 
@@ -151,33 +147,33 @@ pub stop_kept : (s left : List ℕ) (held : ℕ) (block : List ℕ) (managed : M
 stop_kept s left held block managed n m r e = (stop_holds managed s held block left (sym e), writes_taken managed s held block left (sym e))
 
 pub restore_kept : (r : Refusal) (κs : Lfts 1) (q left : ChannelRecord) (f : Form) (s : Bor (List ℕ))
-    → Allows fn_restore κs (q, (f, (s, tt))) (record { answer = done_answer.Refused r; next = left }, (tt, (tt, (tt, tt))))
+    → Allows fn_restore κs (q, (f, (s, tt))) (record { answer = Err r; next = left }, (tt, (tt, (tt, tt))))
     → left ≡ q
 restore_kept r κs q left f s e = sym (restores_refused f e)
 
 -- the calls on the record: a refusal leaves it
 module _ (r : Refusal) (q left : ChannelRecord) where
   pub open_kept : (k : Channel) (w : ℕ)
-      → Allows fn_open_channel tt (q, (k, (w, tt))) (record { answer = done_answer.Refused r; next = left }, (tt, (tt, (tt, tt)))) → left ≡ q
+      → Allows fn_open_channel tt (q, (k, (w, tt))) (record { answer = Err r; next = left }, (tt, (tt, (tt, tt)))) → left ≡ q
   open_kept k w e =
       opening_ways q k (λ (v : Kept (Unit {0})). v ≡ keeping (refusal r) left → left ≡ q) w (λ j vs f. sym (keeping_one f).1)
       (λ o f. absurd (not_done (sym (keeping_one f).0))) (sym e)
 
-  pub close_kept : (k : Channel) → Allows fn_close_channel tt (q, (k, tt)) (record { answer = done_answer.Refused r; next = left }, (tt, (tt, tt))) → left ≡ q
+  pub close_kept : (k : Channel) → Allows fn_close_channel tt (q, (k, tt)) (record { answer = Err r; next = left }, (tt, (tt, tt))) → left ≡ q
   close_kept k e =
       closing_ways q k (λ (v : Kept (Unit {0})). v ≡ keeping (refusal r) left → left ≡ q) (λ j vs f. sym (keeping_one f).1)
       (λ o f. absurd (not_done (sym (keeping_one f).0))) (sym e)
 
   pub hear_count_kept : (k : Channel) (w n : ℕ)
-      → Allows fn_hear_count tt (q, (k, (w, (n, tt)))) (record { answer = arrival_answer.Refused r; next = left }, (tt, (tt, (tt, (tt, tt))))) → left ≡ q
+      → Allows fn_hear_count tt (q, (k, (w, (n, tt)))) (record { answer = Err r; next = left }, (tt, (tt, (tt, (tt, tt))))) → left ≡ q
   hear_count_kept k w n e = applied_keeps q (judging q k w n) (sym e)
 
   pub hear_frame_kept : (x : TransferFrame)
-      → Allows fn_hear_frame tt (q, (x, tt)) (record { answer = hear_answer.Refused r; next = left }, (tt, (tt, tt))) → left ≡ q
+      → Allows fn_hear_frame tt (q, (x, tt)) (record { answer = Err r; next = left }, (tt, (tt, tt))) → left ≡ q
   hear_frame_kept x e = applied_keeps q (judged_by channel_of q x) (sym e)
 
   pub hear_kept : (κs : Lfts 1) (s : Bor (List ℕ)) (managed : ManagedParameters)
-      → Allows fn_hear κs (q, (s, (managed, tt))) (record { answer = hear_answer.Refused r; next = left }, (tt, (tt, (tt, tt)))) → left ≡ q
+      → Allows fn_hear κs (q, (s, (managed, tt))) (record { answer = Err r; next = left }, (tt, (tt, (tt, tt)))) → left ≡ q
   hear_kept κs s managed e = applied_keeps q (and_then (frame_reading s.now managed) (judged_by channel_of q)) (sym e)
 
 -- the call for many frames is not refused itself; where the reader refuses the first octets, and so no frame is heard, it leaves the record
@@ -192,10 +188,10 @@ setting_kept h left (refused j ws) e f = e
 
 module _ (r : Refusal) (h : MutBor PrimaryHeader) (left : PrimaryHeader) where
   pub frame_len_kept : (κs : Lfts 1) (n : ℕ)
-      → Implies setters.set_frame_len.ended (λ M 𝓤. setters.set_frame_len.clauses) κs (h, (n, tt)) (done_answer.Refused r, (left, (tt, tt))) (left ≡ h.now)
+      → Implies setters.set_frame_len.ended (λ M 𝓤. setters.set_frame_len.clauses) κs (h, (n, tt)) (Err r, (left, (tt, tt))) (left ≡ h.now)
   frame_len_kept κs n = implies _ _ (λ e. setting_kept h.now left (length_setting h.now n) e.0 e.1)
 
   pub vc_frame_count_kept : (κs : Lfts 1) (w n : ℕ)
       → Implies setters.set_vc_frame_count.ended (λ M 𝓤. setters.set_vc_frame_count.clauses) κs (h, (w, (n, tt)))
-      (done_answer.Refused r, (left, (tt, (tt, tt)))) (left ≡ h.now)
+      (Err r, (left, (tt, (tt, tt)))) (left ≡ h.now)
   vc_frame_count_kept κs w n = implies _ _ (λ e. setting_kept h.now left (count_setting h.now w n) e.0 e.1)

@@ -8,10 +8,8 @@ use lib.Dec.{lit<, lit≤}
 use lib.ListN.{length, take, drop}
 use Rattle.uslp_octets.specs.Octets.{word}
 use Rattle.uslp_kinds.specs.Outcome.{done, refused, Written, leaving}
-use Rattle.uslp_kinds.specs.Answers.{paper_length}
-use Rattle.uslp_kinds.proofs.Back.{back, one_to_one, length_back, leaving_one}
+use Rattle.uslp_kinds.proofs.Back.{leaving_one, paper_one}
 use Rattle.uslp_kinds.proofs.Outcomes.{not_done}
-use Rattle.uslp_kinds.specs.declared.LengthAnswer.TheVariants as length_answer
 use Rattle.uslp_record.specs.declared.SlotState.{SlotState}
 use Rattle.uslp_record.specs.declared.ChannelRecord.{ChannelRecord}
 use Rattle.uslp_form.specs.declared.Form.{Form}
@@ -27,6 +25,7 @@ use Rattle.uslp_converting.proofs as converting
 use Rattle.uslp_demands.specs.Promise.{Function, function, at, at_mut, Settles, Program, Keeps}
 use Rattle.uslp_demands.proofs.Alike.{alike}
 use Rattle.uslp_demands.proofs.OfSaved.{fn_restore, restorer_of, restores}
+use Rattle.uslp_kinds.specs.Answers.{paper}
 
 abbrev pub fn_convert : Function
 fn_convert = function converting.convert.Kinds.ps converting.convert.Kinds.r converting.convert.Reads.Pre converting.convert.Reads.Learnt
@@ -35,12 +34,12 @@ pub convert_settles : Settles fn_convert
 convert_settles = record {
   total = λ κs a. tt;
   same = λ κs a x y s t. let e = leaving_one (claims.converting_one a.0 a.1.1.0 _ _ s t) in
-      alike (one_to_one paper_length (back length_answer.Done length_answer.Refused) length_back e.0) (λ i. (tt, (tt, (tt, (e.1 i, tt)))));
+      alike (paper_one e.0) (λ i. (tt, (tt, (tt, (e.1 i, tt)))));
 }
 
 -- what a program leaves that converts, as the definition sees it
 abbrev pub converter_of : Program fn_convert → Form → Form → List ℕ → List ℕ → Written ℕ
-converter_of c f g s b = let x = c ([], ([], tt)) (f, (at s, (g, (at_mut b, tt)))) in leaving (paper_length x.0) x.1.1.1.1.0
+converter_of c f g s b = let x = c ([], ([], tt)) (f, (at s, (g, (at_mut b, tt)))) in leaving (paper x.0) x.1.1.1.1.0
 
 -- octets are the form of some entries, and each section of it ascends
 pub record Ascends (g : Form) (s : List ℕ) : Type 0 where

@@ -3,21 +3,17 @@ use mathlib.Core.Path.{◌≡◌, refl, sym, ◌∙◌}
 use mathlib.Core.List.{[], ◌∷◌}
 use Prim.Native.Nat.{ℕ}
 use native.Mathlib.Omega.{arith}
-use Rattle.uslp_kinds.specs.Answers.{paper_length}
-use Rattle.uslp_kinds.proofs.Back.{back, one_to_one, length_back, leaving_one}
+use Rattle.uslp_kinds.proofs.Back.{leaving_one, paper_one}
 use Rattle.uslp_kinds.specs.declared.ConstructionRule.TheVariants.{PacketSpanningMultipleFrames, NoSegmentation}
 use Rattle.uslp_kinds.specs.declared.UslpProtocolId.TheVariants.{UserDefinedOctetStream, Idle}
-use Rattle.uslp_kinds.specs.declared.FhpOrLvo.TheVariants.{Absent, Present}
 use Rattle.uslp_kinds.specs.declared.Refusal.TheVariants.{ShortSource, ShortTarget, BadProtocol, BadPointer}
-use Rattle.uslp_kinds.specs.declared.LengthAnswer.TheVariants as length_answer
-use Rattle.uslp_data_field_header.specs.Field.{paper_field, field_making, field_checking, field_reading, field_writing}
+use Rattle.uslp_data_field_header.specs.Field.{field_making, field_checking, field_reading, field_writing}
 use Rattle.uslp_data_field_header.specs.declared.TransferFrameDataFieldHeader.{TransferFrameDataFieldHeader}
-use Rattle.uslp_data_field_header.specs.declared.DataFieldHeaderAnswer.TheVariants as field_answer
-use Rattle.uslp_data_field_header.proofs.RoundTrip.{field_back}
 use Rattle.uslp_data_field_header.proofs as field
 use Rattle.uslp_demands.specs.Promise.{Function, function, at, at_mut, Allows, Settles}
 use Rattle.uslp_roundtrip.specs.Samples.{whole, spanning}
 use Rattle.uslp_demands.proofs.Alike.{alike}
+use Rattle.std.specs.Prelude.{Ok, Err, Some, None}
 
 -- the functions, each with its promise
 abbrev fn_new : Function
@@ -62,23 +58,23 @@ fn_write_to_slice =
 
 -- rule 7 with a pointer, which no call makes
 abbrev odd : TransferFrameDataFieldHeader
-odd = record { construction_rule = NoSegmentation; uslp_protocol_id = UserDefinedOctetStream; fhp_or_lvo = Present 1 }
+odd = record { construction_rule = NoSegmentation; uslp_protocol_id = UserDefinedOctetStream; fhp_or_lvo = Some 1 }
 
 pub new_settles : Settles fn_new
 new_settles = record {
   total = λ κs a. tt;
   same = λ κs a x y s t. alike
-      (one_to_one paper_field (back field_answer.Done field_answer.Refused) field_back (s ∙ sym t)) refl;
+      (paper_one (s ∙ sym t)) refl;
 }
 
 -- takes any pointer
-pub new_lax : Allows fn_new tt (NoSegmentation, (UserDefinedOctetStream, (Present 1, tt))) (field_answer.Done odd, (tt, (tt, (tt, tt)))) → ⊥
+pub new_lax : Allows fn_new tt (NoSegmentation, (UserDefinedOctetStream, (Some 1, tt))) (Ok odd, (tt, (tt, (tt, tt)))) → ⊥
 unfolding field_making
 new_lax e = let z : ◌≡◌ {A = ℕ} 0 1 = cc in omega arith
 
 -- wants no pointer with rule 0
-pub new_strict : Allows fn_new tt (PacketSpanningMultipleFrames, (Idle, (Present 0x0AF0, tt)))
-    (field_answer.Refused (BadPointer PacketSpanningMultipleFrames), (tt, (tt, (tt, tt)))) → ⊥
+pub new_strict : Allows fn_new tt (PacketSpanningMultipleFrames, (Idle, (Some 0x0AF0, tt)))
+    (Err (BadPointer PacketSpanningMultipleFrames), (tt, (tt, (tt, tt)))) → ⊥
 unfolding field_making
 new_strict e = let z : ◌≡◌ {A = ℕ} 0 1 = cc in omega arith
 
@@ -108,11 +104,11 @@ pub fhp_or_lvo_settles : Settles fn_fhp_or_lvo
 fhp_or_lvo_settles = record { total = λ κs a. tt; same = λ κs a x y s t. alike (s ∙ sym t) refl }
 
 -- no pointer ever
-pub fhp_or_lvo_none : Allows fn_fhp_or_lvo tt (spanning, tt) (Absent, (tt, tt)) → ⊥
+pub fhp_or_lvo_none : Allows fn_fhp_or_lvo tt (spanning, tt) (None, (tt, tt)) → ⊥
 fhp_or_lvo_none e = let z : ◌≡◌ {A = ℕ} 0 1 = cc in omega arith
 
 -- a pointer of 0 where there is none
-pub fhp_or_lvo_zero : Allows fn_fhp_or_lvo tt (whole, tt) (Present 0, (tt, tt)) → ⊥
+pub fhp_or_lvo_zero : Allows fn_fhp_or_lvo tt (whole, tt) (Some 0, (tt, tt)) → ⊥
 fhp_or_lvo_zero e = let z : ◌≡◌ {A = ℕ} 0 1 = cc in omega arith
 
 pub len_header_settles : Settles fn_len_header
@@ -130,16 +126,16 @@ pub checked_settles : Settles fn_checked
 checked_settles = record {
   total = λ κs a. tt;
   same = λ κs a x y s t. alike
-      (one_to_one paper_field (back field_answer.Done field_answer.Refused) field_back (s ∙ sym t)) refl;
+      (paper_one (s ∙ sym t)) refl;
 }
 
 -- passes every header
-pub checked_lax : Allows fn_checked tt (odd, tt) (field_answer.Done odd, (tt, tt)) → ⊥
+pub checked_lax : Allows fn_checked tt (odd, tt) (Ok odd, (tt, tt)) → ⊥
 unfolding field_checking
 checked_lax e = let z : ◌≡◌ {A = ℕ} 0 1 = cc in omega arith
 
 -- refuses every header
-pub checked_all : Allows fn_checked tt (whole, tt) (field_answer.Refused (BadPointer NoSegmentation), (tt, tt)) → ⊥
+pub checked_all : Allows fn_checked tt (whole, tt) (Err (BadPointer NoSegmentation), (tt, tt)) → ⊥
 unfolding field_checking
 checked_all e = let z : ◌≡◌ {A = ℕ} 0 1 = cc in omega arith
 
@@ -147,16 +143,16 @@ pub from_bytes_settles : Settles fn_from_bytes
 from_bytes_settles = record {
   total = λ κs a. tt;
   same = λ κs a x y s t. alike
-      (one_to_one paper_field (back field_answer.Done field_answer.Refused) field_back (s ∙ sym t)) refl;
+      (paper_one (s ∙ sym t)) refl;
 }
 
 -- asks for three octets of every rule
-pub from_bytes_early : Allows fn_from_bytes ([], tt) (at (0xE4 ∷ []), tt) (field_answer.Refused (ShortSource 1 3), (tt, tt)) → ⊥
+pub from_bytes_early : Allows fn_from_bytes ([], tt) (at (0xE4 ∷ []), tt) (Err (ShortSource 1 3), (tt, tt)) → ⊥
 unfolding field_reading
 from_bytes_early e = let z : ◌≡◌ {A = ℕ} 0 1 = cc in omega arith
 
 -- looks at the protocol id before the length
-pub from_bytes_protocol : Allows fn_from_bytes ([], tt) (at (0x09 ∷ []), tt) (field_answer.Refused (BadProtocol 9), (tt, tt)) → ⊥
+pub from_bytes_protocol : Allows fn_from_bytes ([], tt) (at (0x09 ∷ []), tt) (Err (BadProtocol 9), (tt, tt)) → ⊥
 unfolding field_reading
 from_bytes_protocol e = let z : ◌≡◌ {A = ℕ} 0 1 = cc in omega arith
 
@@ -164,15 +160,15 @@ pub write_to_slice_settles : Settles fn_write_to_slice
 write_to_slice_settles = record {
   total = λ κs a. tt;
   same = λ κs a x y s t. let e = leaving_one (s ∙ sym t) in
-      alike (one_to_one paper_length (back length_answer.Done length_answer.Refused) length_back e.0) (λ i. (tt, (e.1 i, tt)));
+      alike (paper_one e.0) (λ i. (tt, (e.1 i, tt)));
 }
 
 -- writes nothing and says done
-pub write_to_slice_idle : Allows fn_write_to_slice ([], tt) (whole, (at_mut (0 ∷ []), tt)) (length_answer.Done 1, (tt, (0 ∷ [], tt))) → ⊥
+pub write_to_slice_idle : Allows fn_write_to_slice ([], tt) (whole, (at_mut (0 ∷ []), tt)) (Ok 1, (tt, (0 ∷ [], tt))) → ⊥
 unfolding field_writing
 write_to_slice_idle e = let z : ◌≡◌ {A = ℕ} 0 0xE4 = cc in omega arith
 
 -- writes what fits of a header that does not
-pub write_to_slice_part : Allows fn_write_to_slice ([], tt) (spanning, (at_mut (7 ∷ []), tt)) (length_answer.Refused (ShortTarget 1 3), (tt, (0x1F ∷ [], tt))) → ⊥
+pub write_to_slice_part : Allows fn_write_to_slice ([], tt) (spanning, (at_mut (7 ∷ []), tt)) (Err (ShortTarget 1 3), (tt, (0x1F ∷ [], tt))) → ⊥
 unfolding field_writing
 write_to_slice_part e = let z : ◌≡◌ {A = ℕ} 0x1F 7 = cc in omega arith

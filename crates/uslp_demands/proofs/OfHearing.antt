@@ -7,9 +7,8 @@ use denote.Ref.{Bor}
 use Rattle.uslp_kinds.specs.Managed.{no_fecf}
 use Rattle.uslp_kinds.specs.Kinds.{bypass_number}
 use Rattle.uslp_kinds.specs.declared.BypassSequenceControlFlag.TheVariants.{SequenceControlledQoS, ExpeditedQoS}
-use Rattle.uslp_kinds.proofs.Back.{back, one_to_one}
+use Rattle.uslp_kinds.proofs.Back.{paper_one}
 use Rattle.uslp_kinds.proofs.Outcomes.{not_done}
-use Rattle.uslp_kinds.specs.declared.OperationalControlField.TheVariants.{Absent}
 use Rattle.uslp_primary_header.specs.Header.{with_count, header_reading}
 use Rattle.uslp_primary_header.specs.declared.PrimaryHeader.{PrimaryHeader}
 use Rattle.uslp_data_field_header.specs.Field.{field_reading}
@@ -23,16 +22,15 @@ use Rattle.uslp_record.specs.declared.ChannelRecord.{ChannelRecord}
 use Rattle.uslp_record.specs.declared.SlotState.{SlotState}
 use Rattle.uslp_record.specs.declared.SlotState.TheVariants.{Closed, Opened, Heard}
 use Rattle.uslp_record.proofs.Back.{keeping_one}
-use Rattle.uslp_hearing.specs.Hearing.{paper_hear}
 use Rattle.uslp_hearing.specs.declared.FrameArrival.TheVariants.{New, Repeat}
 use Rattle.uslp_hearing.specs.declared.FrameArrival.{FrameArrival}
-use Rattle.uslp_hearing.specs.declared.HearAnswer.TheVariants.{Done, Refused}
-use Rattle.uslp_hearing.specs.declared.Hearing.{Hearing}
-use Rattle.uslp_hearing.proofs.Heard.{hear_back}
+use Rattle.uslp_record.specs.declared.Recorded.{Recorded}
 use Rattle.uslp_hearing.proofs as hearing
 use Rattle.uslp_demands.specs.Promise.{Function, function, at, Allows, Settles, Shows}
 use Rattle.uslp_roundtrip.specs.Samples.{octets_f, some, whole, read_f}
 use Rattle.uslp_demands.proofs.Alike.{alike}
+use Rattle.std.specs.Prelude.{Ok, None}
+use Rattle.uslp_kinds.specs.Answers.{paper}
 
 -- the functions, each with its promise
 abbrev pub fn_hear : Function
@@ -60,10 +58,10 @@ abbrev handed_first : ChannelRecord → ℕ
 handed_first r = handed_in (state_at r 0)
 
 -- two answers with the record after them that say the same are the same
-hearing_one : {x y : Hearing} → keeping (paper_hear x.answer) x.next ≡ keeping (paper_hear y.answer) y.next → x ≡ y
+hearing_one : {x y : Recorded FrameArrival} → keeping (paper x.answer) x.next ≡ keeping (paper y.answer) y.next → x ≡ y
 hearing_one {x} {y} q =
     let e = keeping_one q in
-    λ i. record { answer = one_to_one paper_hear (back Done Refused) hear_back {x = x.answer} {y = y.answer} e.0 i; next = e.1 i }
+    λ i. record { answer = paper_one {x = x.answer} {y = y.answer} e.0 i; next = e.1 i }
 
 pub hear_settles : Settles fn_hear
 hear_settles = record { total = λ κs a. tt; same = λ κs a x y s t. alike (hearing_one {x = x.0} {y = y.0} (s ∙ sym t)) refl }
@@ -72,20 +70,20 @@ pub hear_frame_settles : Settles fn_hear_frame
 hear_frame_settles = record { total = λ κs a. tt; same = λ κs a x y s t. alike (hearing_one {x = x.0} {y = y.0} (s ∙ sym t)) refl }
 
 -- hears a channel that is not open; says NEW and counts nothing
-pub hear_lax : Allows fn_hear ([], tt) (empty_record, (at octets_f, (no_fecf, tt))) (record { answer = Done Repeat; next = empty_record }, (tt, (tt, (tt, tt)))) → ⊥
+pub hear_lax : Allows fn_hear ([], tt) (empty_record, (at octets_f, (no_fecf, tt))) (record { answer = Ok Repeat; next = empty_record }, (tt, (tt, (tt, tt)))) → ⊥
 unfolding frame_reading header_reading field_reading judging find
 hear_lax e = let z : ◌≡◌ {A = ℕ} 0 1 = cc in omega arith
 
-pub hear_still : Allows fn_hear ([], tt) (opened, (at octets_f, (no_fecf, tt))) (record { answer = Done (New 0 read_f); next = opened }, (tt, (tt, (tt, tt)))) → ⊥
+pub hear_still : Allows fn_hear ([], tt) (opened, (at octets_f, (no_fecf, tt))) (record { answer = Ok (New 0 read_f); next = opened }, (tt, (tt, (tt, tt)))) → ⊥
 unfolding frame_reading header_reading field_reading judging find
 hear_still e = let z : ◌≡◌ {A = ℕ} 0 1 = ap (λ (r : ChannelRecord). handed_first r) (keeping_one e).1 in omega arith
 
 -- the same of a frame that was read already
-pub hear_frame_lax : Allows fn_hear_frame tt (empty_record, (read_f, tt)) (record { answer = Done Repeat; next = empty_record }, (tt, (tt, tt))) → ⊥
+pub hear_frame_lax : Allows fn_hear_frame tt (empty_record, (read_f, tt)) (record { answer = Ok Repeat; next = empty_record }, (tt, (tt, tt))) → ⊥
 unfolding judging find
 hear_frame_lax e = let z : ◌≡◌ {A = ℕ} 0 1 = cc in omega arith
 
-pub hear_frame_still : Allows fn_hear_frame tt (opened, (read_f, tt)) (record { answer = Done (New 0 read_f); next = opened }, (tt, (tt, tt))) → ⊥
+pub hear_frame_still : Allows fn_hear_frame tt (opened, (read_f, tt)) (record { answer = Ok (New 0 read_f); next = opened }, (tt, (tt, tt))) → ⊥
 unfolding judging find
 hear_frame_still e = let z : ◌≡◌ {A = ℕ} 0 1 = ap (λ (r : ChannelRecord). handed_first r) (keeping_one e).1 in omega arith
 
@@ -95,13 +93,13 @@ unfit =
     record {
       primary_header = with_count 1 300 some;
       data_field_header = whole;
-      operational_control_field = Absent;
+      operational_control_field = None;
       data_start = 9;
       data_len = 2;
     }
 
 pub hear_frame_unfit : (a : FrameArrival) (q : ChannelRecord)
-    → Allows fn_hear_frame tt (opened, (unfit, tt)) (record { answer = Done a; next = q }, (tt, (tt, tt))) → ⊥
+    → Allows fn_hear_frame tt (opened, (unfit, tt)) (record { answer = Ok a; next = q }, (tt, (tt, tt))) → ⊥
 unfolding judging find
 hear_frame_unfit a q e = not_done (sym (keeping_one e).0)
 
@@ -109,10 +107,10 @@ pub handed_on_shows : Shows fn_handed_on (λ κs a r. r)
 handed_on_shows = record { total = λ κs a. tt; same = λ κs a x y s t. (s.lies ∙ sym t.lies, s.shows ∙ sym t.shows) }
 
 -- hands on the data of a REPEAT; hands on nothing of a NEW frame
-pub handed_on_repeat : (r : Bor (List ℕ)) → r.now ≡ 0x0A ∷ 0xF0 ∷ [] → Allows fn_handed_on ([], tt) (Done Repeat, (at octets_f, tt)) (r, (tt, (tt, tt))) → ⊥
+pub handed_on_repeat : (r : Bor (List ℕ)) → r.now ≡ 0x0A ∷ 0xF0 ∷ [] → Allows fn_handed_on ([], tt) (Ok Repeat, (at octets_f, tt)) (r, (tt, (tt, tt))) → ⊥
 handed_on_repeat r h e = let z : ◌≡◌ {A = ℕ} 0 1 = cc in omega arith
 
-pub handed_on_none : (r : Bor (List ℕ)) → r.now ≡ [] → Allows fn_handed_on ([], tt) (Done (New 0 read_f), (at octets_f, tt)) (r, (tt, (tt, tt))) → ⊥
+pub handed_on_none : (r : Bor (List ℕ)) → r.now ≡ [] → Allows fn_handed_on ([], tt) (Ok (New 0 read_f), (at octets_f, tt)) (r, (tt, (tt, tt))) → ⊥
 handed_on_none r h e = let z : ◌≡◌ {A = ℕ} 0 1 = cc in omega arith
 
 pub channel_of_settles : Settles fn_channel_of

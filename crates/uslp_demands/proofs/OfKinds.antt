@@ -7,19 +7,17 @@ use Prim.Native.Nat.{ℕ}
 use native.Mathlib.Omega.{arith}
 use lib.ListN.{length}
 use denote.Ref.{Bor}
-use Rattle.uslp_kinds.specs.Answers.{paper_protocol}
-use Rattle.uslp_kinds.proofs.Back.{back, one_to_one, protocol_back}
+use Rattle.uslp_kinds.proofs.Back.{paper_one}
 use Rattle.uslp_kinds.specs.declared.SourceOrDestField.TheVariants.{Source, Dest}
 use Rattle.uslp_kinds.specs.declared.BypassSequenceControlFlag.TheVariants.{SequenceControlledQoS, ExpeditedQoS}
 use Rattle.uslp_kinds.specs.declared.ProtocolControlCommandFlag.TheVariants.{TfdfContainsUserData, TfdfContainsProtocolInfo}
 use Rattle.uslp_kinds.specs.declared.ConstructionRule.TheVariants.{PacketSpanningMultipleFrames, OctetStream, NoSegmentation}
 use Rattle.uslp_kinds.specs.declared.UslpProtocolId.TheVariants.{UserDefinedOctetStream, Idle}
 use Rattle.uslp_kinds.specs.declared.Refusal.TheVariants.{ShortSource, ShortTarget, BadProtocol}
-use Rattle.uslp_kinds.specs.declared.LengthAnswer.TheVariants as length_answer
-use Rattle.uslp_kinds.specs.declared.ProtocolIdAnswer.TheVariants.{Done, Refused}
 use Rattle.uslp_kinds.proofs as kinds
 use Rattle.uslp_demands.specs.Promise.{Function, function, at, Allows, Settles, Shows}
 use Rattle.uslp_demands.proofs.Alike.{alike}
+use Rattle.std.specs.Prelude.{Ok, Err}
 
 -- the functions, each with its promise
 abbrev fn_written : Function
@@ -27,43 +25,43 @@ fn_written = function kinds.written.Kinds.ps kinds.written.Kinds.r kinds.written
 
 abbrev fn_from_number : Function
 fn_from_number =
-    function kinds.SourceOrDestField.from_number.Kinds.ps kinds.SourceOrDestField.from_number.Kinds.r
-    kinds.SourceOrDestField.from_number.Reads.Pre kinds.SourceOrDestField.from_number.Reads.Learnt
+    function kinds.SourceOrDestFieldFromU8.from.Kinds.ps kinds.SourceOrDestFieldFromU8.from.Kinds.r
+    kinds.SourceOrDestFieldFromU8.from.Reads.Pre kinds.SourceOrDestFieldFromU8.from.Reads.Learnt
 
 abbrev fn_number : Function
 fn_number =
-    function kinds.SourceOrDestField.number.Kinds.ps kinds.SourceOrDestField.number.Kinds.r
-    kinds.SourceOrDestField.number.Reads.Pre kinds.SourceOrDestField.number.Reads.Learnt
+    function kinds.U8FromSourceOrDestField.from.Kinds.ps kinds.U8FromSourceOrDestField.from.Kinds.r
+    kinds.U8FromSourceOrDestField.from.Reads.Pre kinds.U8FromSourceOrDestField.from.Reads.Learnt
 
 abbrev fn_bypass_sequence_control_flag_from_number : Function
 fn_bypass_sequence_control_flag_from_number =
-    function kinds.BypassSequenceControlFlag.from_number.Kinds.ps kinds.BypassSequenceControlFlag.from_number.Kinds.r
-    kinds.BypassSequenceControlFlag.from_number.Reads.Pre kinds.BypassSequenceControlFlag.from_number.Reads.Learnt
+    function kinds.BypassSequenceControlFlagFromU8.from.Kinds.ps kinds.BypassSequenceControlFlagFromU8.from.Kinds.r
+    kinds.BypassSequenceControlFlagFromU8.from.Reads.Pre kinds.BypassSequenceControlFlagFromU8.from.Reads.Learnt
 
 abbrev fn_bypass_sequence_control_flag_number : Function
 fn_bypass_sequence_control_flag_number =
-    function kinds.BypassSequenceControlFlag.number.Kinds.ps kinds.BypassSequenceControlFlag.number.Kinds.r
-    kinds.BypassSequenceControlFlag.number.Reads.Pre kinds.BypassSequenceControlFlag.number.Reads.Learnt
+    function kinds.U8FromBypassSequenceControlFlag.from.Kinds.ps kinds.U8FromBypassSequenceControlFlag.from.Kinds.r
+    kinds.U8FromBypassSequenceControlFlag.from.Reads.Pre kinds.U8FromBypassSequenceControlFlag.from.Reads.Learnt
 
 abbrev fn_protocol_control_command_flag_from_number : Function
 fn_protocol_control_command_flag_from_number =
-    function kinds.ProtocolControlCommandFlag.from_number.Kinds.ps kinds.ProtocolControlCommandFlag.from_number.Kinds.r
-    kinds.ProtocolControlCommandFlag.from_number.Reads.Pre kinds.ProtocolControlCommandFlag.from_number.Reads.Learnt
+    function kinds.ProtocolControlCommandFlagFromU8.from.Kinds.ps kinds.ProtocolControlCommandFlagFromU8.from.Kinds.r
+    kinds.ProtocolControlCommandFlagFromU8.from.Reads.Pre kinds.ProtocolControlCommandFlagFromU8.from.Reads.Learnt
 
 abbrev fn_protocol_control_command_flag_number : Function
 fn_protocol_control_command_flag_number =
-    function kinds.ProtocolControlCommandFlag.number.Kinds.ps kinds.ProtocolControlCommandFlag.number.Kinds.r
-    kinds.ProtocolControlCommandFlag.number.Reads.Pre kinds.ProtocolControlCommandFlag.number.Reads.Learnt
+    function kinds.U8FromProtocolControlCommandFlag.from.Kinds.ps kinds.U8FromProtocolControlCommandFlag.from.Kinds.r
+    kinds.U8FromProtocolControlCommandFlag.from.Reads.Pre kinds.U8FromProtocolControlCommandFlag.from.Reads.Learnt
 
 abbrev fn_construction_rule_from_number : Function
 fn_construction_rule_from_number =
-    function kinds.ConstructionRule.from_number.Kinds.ps kinds.ConstructionRule.from_number.Kinds.r
-    kinds.ConstructionRule.from_number.Reads.Pre kinds.ConstructionRule.from_number.Reads.Learnt
+    function kinds.ConstructionRuleFromU8.from.Kinds.ps kinds.ConstructionRuleFromU8.from.Kinds.r
+    kinds.ConstructionRuleFromU8.from.Reads.Pre kinds.ConstructionRuleFromU8.from.Reads.Learnt
 
 abbrev fn_construction_rule_number : Function
 fn_construction_rule_number =
-    function kinds.ConstructionRule.number.Kinds.ps kinds.ConstructionRule.number.Kinds.r
-    kinds.ConstructionRule.number.Reads.Pre kinds.ConstructionRule.number.Reads.Learnt
+    function kinds.U8FromConstructionRule.from.Kinds.ps kinds.U8FromConstructionRule.from.Kinds.r
+    kinds.U8FromConstructionRule.from.Reads.Pre kinds.U8FromConstructionRule.from.Reads.Learnt
 
 abbrev fn_applicable_to_fixed_len_tfdz : Function
 fn_applicable_to_fixed_len_tfdz =
@@ -72,13 +70,13 @@ fn_applicable_to_fixed_len_tfdz =
 
 abbrev fn_uslp_protocol_id_from_number : Function
 fn_uslp_protocol_id_from_number =
-    function kinds.UslpProtocolId.from_number.Kinds.ps kinds.UslpProtocolId.from_number.Kinds.r
-    kinds.UslpProtocolId.from_number.Reads.Pre kinds.UslpProtocolId.from_number.Reads.Learnt
+    function kinds.UslpProtocolIdTryFromU8.try_from.Kinds.ps kinds.UslpProtocolIdTryFromU8.try_from.Kinds.r
+    kinds.UslpProtocolIdTryFromU8.try_from.Reads.Pre kinds.UslpProtocolIdTryFromU8.try_from.Reads.Learnt
 
 abbrev fn_uslp_protocol_id_number : Function
 fn_uslp_protocol_id_number =
-    function kinds.UslpProtocolId.number.Kinds.ps kinds.UslpProtocolId.number.Kinds.r
-    kinds.UslpProtocolId.number.Reads.Pre kinds.UslpProtocolId.number.Reads.Learnt
+    function kinds.U8FromUslpProtocolId.from.Kinds.ps kinds.U8FromUslpProtocolId.from.Kinds.r
+    kinds.U8FromUslpProtocolId.from.Reads.Pre kinds.U8FromUslpProtocolId.from.Reads.Learnt
 
 abbrev fn_refusal_number : Function
 fn_refusal_number =
@@ -191,14 +189,14 @@ applicable_none e = let z : ◌≡◌ {A = ℕ} 0 1 = cc in omega arith
 
 pub protocol_from_settles : Settles fn_uslp_protocol_id_from_number
 protocol_from_settles = record
-    { total = λ κs a. tt; same = λ κs a x y s t. alike (one_to_one paper_protocol (back Done Refused) protocol_back (s ∙ sym t)) refl }
+    { total = λ κs a. tt; same = λ κs a x y s t. alike (paper_one (s ∙ sym t)) refl }
 
 -- an unknown id taken as idle
-pub protocol_from_idle : Allows fn_uslp_protocol_id_from_number tt (9, tt) (Done Idle, (tt, tt)) → ⊥
+pub protocol_from_idle : Allows fn_uslp_protocol_id_from_number tt (9, tt) (Ok Idle, (tt, tt)) → ⊥
 protocol_from_idle e = let z : ◌≡◌ {A = ℕ} 0 1 = cc in omega arith
 
 -- 31 refused as the others above 8
-pub protocol_from_refused : Allows fn_uslp_protocol_id_from_number tt (31, tt) (Refused (BadProtocol 31), (tt, tt)) → ⊥
+pub protocol_from_refused : Allows fn_uslp_protocol_id_from_number tt (31, tt) (Err (BadProtocol 31), (tt, tt)) → ⊥
 protocol_from_refused e = let z : ◌≡◌ {A = ℕ} 0 1 = cc in omega arith
 
 pub protocol_number_settles : Settles fn_uslp_protocol_id_number
@@ -236,9 +234,9 @@ pub written_shows : Shows fn_written (λ κs a r. r)
 written_shows = record { total = λ κs a. tt; same = λ κs a x y s t. (s.lies ∙ sym t.lies, s.shows ∙ sym t.shows) }
 
 -- shows the whole buffer; shows octets on a refusal
-pub written_whole : (r : Bor (List ℕ)) → r.now ≡ 1 ∷ 2 ∷ [] → Allows fn_written ([], tt) (length_answer.Done 1, (at (1 ∷ 2 ∷ []), tt)) (r, (tt, (tt, tt))) → ⊥
+pub written_whole : (r : Bor (List ℕ)) → r.now ≡ 1 ∷ 2 ∷ [] → Allows fn_written ([], tt) (Ok 1, (at (1 ∷ 2 ∷ []), tt)) (r, (tt, (tt, tt))) → ⊥
 written_whole r h e = let z : ◌≡◌ {A = ℕ} 2 1 = ap length (sym h ∙ e.shows) in omega arith
 
 pub written_refused : (r : Bor (List ℕ)) → r.now ≡ 1 ∷ 2 ∷ []
-    → Allows fn_written ([], tt) (length_answer.Refused (ShortTarget 2 3), (at (1 ∷ 2 ∷ []), tt)) (r, (tt, (tt, tt))) → ⊥
+    → Allows fn_written ([], tt) (Err (ShortTarget 2 3), (at (1 ∷ 2 ∷ []), tt)) (r, (tt, (tt, tt))) → ⊥
 written_refused r h e = let z : ◌≡◌ {A = ℕ} 2 0 = ap length (sym h ∙ e.shows) in omega arith

@@ -1,100 +1,35 @@
 -- The promises of the setters of `uslp_lent` settle each call, and shut out two tempting wrong answers of each function.
-use mathlib.Core.Path.{◌≡◌, refl, sym, ap, ◌∙◌}
+use mathlib.Core.Path.{◌≡◌, sym, ap, ◌∙◌}
 use Prim.Native.Nat.{ℕ}
 use mathlib.Core.List.{[]}
 use native.Mathlib.Omega.{arith}
 use denote.Ref.{MutBor}
-use Rattle.uslp_kinds.specs.Answers.{paper_done}
-use Rattle.uslp_kinds.specs.declared.DoneAnswer.TheVariants.{Done, Refused}
 use Rattle.uslp_kinds.specs.declared.Refusal.TheVariants.{BadCount, TooLong}
-use Rattle.uslp_kinds.proofs.Outcomes.{not_done}
 use Rattle.uslp_primary_header.specs.Header.{count_setting, length_setting, with_count, with_length}
 use Rattle.uslp_primary_header.specs.declared.PrimaryHeader.{PrimaryHeader}
-use Rattle.uslp_primary_header.specs.declared.HeaderAnswer.TheVariants as header_answer
-use Rattle.uslp_lent.specs.declared.setters.Decided.{Decided}
-use Rattle.uslp_lent.proofs.setters as setters
 use Rattle.uslp_lent.specs.contracts.setters as contracts
-use Rattle.uslp_demands.specs.Promise.{Function, function, Allows, Settles}
 use Rattle.uslp_demands.specs.Clause as clause
-use Rattle.uslp_roundtrip.specs.Samples.{some, made}
+use Rattle.uslp_roundtrip.specs.Samples.{some}
 use Rattle.uslp_demands.proofs.Alike.{alike, done_alike}
 use Rattle.uslp_demands.proofs.Facts.{by_fact, shut}
-
--- the functions, each with its promise
-abbrev fn_settle : Function
-fn_settle = function setters.settle.Kinds.ps setters.settle.Kinds.r setters.settle.Reads.Pre setters.settle.Reads.Learnt
-
-abbrev fn_decide_frame_len : Function
-fn_decide_frame_len =
-    function setters.decide_frame_len.Kinds.ps setters.decide_frame_len.Kinds.r
-    setters.decide_frame_len.Reads.Pre setters.decide_frame_len.Reads.Learnt
-
-abbrev fn_decide_vc_frame_count : Function
-fn_decide_vc_frame_count =
-    function setters.decide_vc_frame_count.Kinds.ps setters.decide_vc_frame_count.Kinds.r
-    setters.decide_vc_frame_count.Reads.Pre setters.decide_vc_frame_count.Reads.Learnt
+use Rattle.std.specs.Prelude.{Ok, Err}
 
 -- a header that is lent for writing
 abbrev lent : PrimaryHeader → MutBor PrimaryHeader
 lent h = record { ref_ptr = (0, 0); ghost_name = 0; now = h }
-
-decided_alike : {d e : Decided} → d.header ≡ e.header → paper_done d.answer ≡ paper_done e.answer → d ≡ e
-decided_alike {d} {e} h a = λ i. record { header = h i; answer = done_alike {x = d.answer} {y = e.answer} a i }
-
-pub settle_settles : Settles fn_settle
-settle_settles = record { total = λ κs a. tt; same = λ κs a x y s t. alike (decided_alike {d = x.0} {e = y.0} (s.0 ∙ sym t.0) (s.1 ∙ sym t.1)) refl }
-
--- leaves the header that it found
-pub settle_idle : Allows fn_settle tt (some, (header_answer.Done made, tt)) (record { header = some; answer = Done }, (tt, (tt, tt))) → ⊥
-settle_idle e = let z : ◌≡◌ {A = ℕ} 7 0 = ap (λ (h : PrimaryHeader). h.vc_frame_count) e.0 in omega arith
-
--- says done of a refusal
-pub settle_says_done : Allows fn_settle tt (some, (header_answer.Refused TooLong, tt)) (record { header = some; answer = Done }, (tt, (tt, tt))) → ⊥
-settle_says_done e = not_done (sym e.1)
-
-pub decide_frame_len_settles : Settles fn_decide_frame_len
-decide_frame_len_settles = record
-    { total = λ κs a. tt; same = λ κs a x y s t. alike (decided_alike {d = x.0} {e = y.0} (s.0 ∙ sym t.0) (s.1 ∙ sym t.1)) refl }
-
--- says done and leaves the old length
-pub decide_frame_len_idle : Allows fn_decide_frame_len tt (some, (12, tt)) (record { header = some; answer = Done }, (tt, (tt, tt))) → ⊥
-unfolding length_setting
-decide_frame_len_idle e = let z : ◌≡◌ {A = ℕ} 10 11 = ap (λ (h : PrimaryHeader). h.frame_len_field) e.0 in omega arith
-
--- refuses 65,537 and leaves it wrapped
-pub decide_frame_len_wrapped : Allows fn_decide_frame_len tt (some, (65537, tt))
-    (record { header = with_length 1 some; answer = Refused TooLong }, (tt, (tt, tt))) → ⊥
-unfolding length_setting
-decide_frame_len_wrapped e = let z : ◌≡◌ {A = ℕ} 0 10 = ap (λ (h : PrimaryHeader). h.frame_len_field) e.0 in omega arith
-
-pub decide_vc_frame_count_settles : Settles fn_decide_vc_frame_count
-decide_vc_frame_count_settles = record
-    { total = λ κs a. tt; same = λ κs a x y s t. alike (decided_alike {d = x.0} {e = y.0} (s.0 ∙ sym t.0) (s.1 ∙ sym t.1)) refl }
-
--- keeps the header's own width
-pub decide_vc_frame_count_own_width : Allows fn_decide_vc_frame_count tt (some, (2, (9, tt)))
-    (record { header = with_count 1 9 some; answer = Done }, (tt, (tt, (tt, tt)))) → ⊥
-unfolding count_setting
-decide_vc_frame_count_own_width e = let z : ◌≡◌ {A = ℕ} 1 2 = ap (λ (h : PrimaryHeader). h.vc_frame_count_len) e.0 in omega arith
-
--- refuses 256 in one octet and leaves it set
-pub decide_vc_frame_count_set : Allows fn_decide_vc_frame_count tt (some, (1, (256, tt)))
-    (record { header = with_count 1 256 some; answer = Refused (BadCount 256 1) }, (tt, (tt, (tt, tt)))) → ⊥
-unfolding count_setting
-decide_vc_frame_count_set e = let z : ◌≡◌ {A = ℕ} 256 7 = ap (λ (h : PrimaryHeader). h.vc_frame_count) e.0 in omega arith
 
 pub set_frame_len_settles : clause.Settles contracts.set_frame_len.ended (λ M 𝓤. contracts.set_frame_len.clauses)
 set_frame_len_settles = by_fact _ _ (λ κs a x y s t. alike (done_alike {x = x.0} {y = y.0} (s.1 ∙ sym t.1)) (λ i. ((s.0 ∙ sym t.0) i, (tt, tt))))
 
 -- says done and leaves the old length
 pub set_frame_len_idle : clause.ShutsOut contracts.set_frame_len.ended (λ M 𝓤. contracts.set_frame_len.clauses) ([], tt) (lent some, (12, tt))
-    (Done, (some, (tt, tt)))
+    (Ok tt, (some, (tt, tt)))
 unfolding length_setting
 set_frame_len_idle = shut _ _ (λ e. let z : ◌≡◌ {A = ℕ} 10 11 = ap (λ (h : PrimaryHeader). h.frame_len_field) e.0 in omega arith)
 
 -- refuses 65,537 and leaves it wrapped
 pub set_frame_len_wrapped : clause.ShutsOut contracts.set_frame_len.ended (λ M 𝓤. contracts.set_frame_len.clauses) ([], tt) (lent some, (65537, tt))
-    (Refused TooLong, (with_length 1 some, (tt, tt)))
+    (Err TooLong, (with_length 1 some, (tt, tt)))
 unfolding length_setting
 set_frame_len_wrapped = shut _ _ (λ e. let z : ◌≡◌ {A = ℕ} 0 10 = ap (λ (h : PrimaryHeader). h.frame_len_field) e.0 in omega arith)
 
@@ -104,12 +39,12 @@ set_vc_frame_count_settles = by_fact _ _
 
 -- keeps the header's own width
 pub set_vc_frame_count_own_width : clause.ShutsOut contracts.set_vc_frame_count.ended (λ M 𝓤. contracts.set_vc_frame_count.clauses) ([], tt)
-    (lent some, (2, (9, tt))) (Done, (with_count 1 9 some, (tt, (tt, tt))))
+    (lent some, (2, (9, tt))) (Ok tt, (with_count 1 9 some, (tt, (tt, tt))))
 unfolding count_setting
 set_vc_frame_count_own_width = shut _ _ (λ e. let z : ◌≡◌ {A = ℕ} 1 2 = ap (λ (h : PrimaryHeader). h.vc_frame_count_len) e.0 in omega arith)
 
 -- refuses 256 in one octet and leaves it set
 pub set_vc_frame_count_set : clause.ShutsOut contracts.set_vc_frame_count.ended (λ M 𝓤. contracts.set_vc_frame_count.clauses) ([], tt)
-    (lent some, (1, (256, tt))) (Refused (BadCount 256 1), (with_count 1 256 some, (tt, (tt, tt))))
+    (lent some, (1, (256, tt))) (Err (BadCount 256 1), (with_count 1 256 some, (tt, (tt, tt))))
 unfolding count_setting
 set_vc_frame_count_set = shut _ _ (λ e. let z : ◌≡◌ {A = ℕ} 256 7 = ap (λ (h : PrimaryHeader). h.vc_frame_count) e.0 in omega arith)

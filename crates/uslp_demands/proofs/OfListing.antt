@@ -3,9 +3,7 @@ use mathlib.Core.Path.{◌≡◌, refl, sym, ◌∙◌}
 use mathlib.Core.List.{[], ◌∷◌}
 use Prim.Native.Nat.{ℕ}
 use native.Mathlib.Omega.{arith}
-use Rattle.uslp_kinds.specs.Answers.{paper_length}
-use Rattle.uslp_kinds.proofs.Back.{back, one_to_one, length_back, leaving_one}
-use Rattle.uslp_kinds.specs.declared.LengthAnswer.TheVariants as length_answer
+use Rattle.uslp_kinds.proofs.Back.{leaving_one, paper_one}
 use Rattle.uslp_kinds.specs.declared.Refusal.TheVariants.{ShortTarget}
 use Rattle.uslp_primary_header.specs.Header.{header_reading}
 use Rattle.uslp_data_field_header.specs.Field.{field_reading}
@@ -17,6 +15,7 @@ use Rattle.uslp_listing.proofs as listing_proofs
 use Rattle.uslp_demands.specs.Promise.{Function, function, at, at_mut, Allows, Settles}
 use Rattle.uslp_roundtrip.specs.Samples.{octets_f}
 use Rattle.uslp_demands.proofs.Alike.{alike}
+use Rattle.std.specs.Prelude.{Ok, Err}
 
 -- the functions, each with its promise
 abbrev pub fn_list : Function
@@ -26,16 +25,16 @@ pub list_settles : Settles fn_list
 list_settles = record {
   total = λ κs a. tt;
   same = λ κs a x y s t. let e = leaving_one (s ∙ sym t) in
-      alike (one_to_one paper_length (back length_answer.Done length_answer.Refused) length_back e.0) (λ i. (tt, (e.1 i, tt)));
+      alike (paper_one e.0) (λ i. (tt, (e.1 i, tt)));
 }
 
 -- takes a buffer of any length
-pub list_lax : Allows fn_list ([], ([], tt)) (at [], (at_mut [], tt)) (length_answer.Done 0, (tt, ([], tt))) → ⊥
+pub list_lax : Allows fn_list ([], ([], tt)) (at [], (at_mut [], tt)) (Ok 0, (tt, ([], tt))) → ⊥
 unfolding listing_over
 list_lax e = let d = (leaving_one e).0 in let z : ◌≡◌ {A = ℕ} 0 1 = cc in omega arith
 
 -- writes what fits of it
-pub list_part : Allows fn_list ([], ([], tt)) (at [], (at_mut (0 ∷ []), tt)) (length_answer.Refused (ShortTarget 1 524400), (tt, (97 ∷ [], tt))) → ⊥
+pub list_part : Allows fn_list ([], ([], tt)) (at [], (at_mut (0 ∷ []), tt)) (Err (ShortTarget 1 524400), (tt, (97 ∷ [], tt))) → ⊥
 unfolding listing_over
 list_part e = let d = (leaving_one e).1 in let z : ◌≡◌ {A = ℕ} 97 0 = cc in omega arith
 

@@ -6,7 +6,6 @@ use native.Mathlib.Omega.{arith}
 use lib.ListN.{drop}
 use Rattle.uslp_kinds.specs.Managed.{no_fecf}
 use Rattle.uslp_kinds.specs.Outcome.{done, refused}
-use Rattle.uslp_kinds.specs.Answers.{paper_done}
 use Rattle.uslp_kinds.specs.declared.ManagedParameters.{ManagedParameters}
 use Rattle.uslp_primary_header.specs.Header.{header_reading}
 use Rattle.uslp_data_field_header.specs.Field.{field_reading}
@@ -24,6 +23,7 @@ use Rattle.uslp_demands.specs.Promise.{Function, function, at, Allows, Settles}
 use Rattle.uslp_roundtrip.specs.Samples.{octets_f}
 use Rattle.uslp_demands.proofs.Alike.{alike, done_alike}
 use Rattle.uslp_demands.proofs.OfRecord.{full}
+use Rattle.uslp_kinds.specs.Answers.{paper}
 
 -- the function with its promise
 abbrev pub fn_hear_many : Function
@@ -50,7 +50,7 @@ Comes r s managed a = Allows fn_hear_many ([], tt) (r, (at s, (managed, tt))) (a
 
 module _ (r : ChannelRecord) (s : List ℕ) (managed : ManagedParameters) (a : ManyHearing) (e : Comes r s managed a) where
   -- stopping at 13, 14 or 17: what stops it is a refusal of the reader
-  pub hear_many_stops : (k : ℕ) (vs : List ℕ) → paper_done a.stop ≡ refused k vs → k ≤ 7
+  pub hear_many_stops : (k : ℕ) (vs : List ℕ) → paper a.stop ≡ refused k vs → k ≤ 7
   hear_many_stops k vs h = stop_up_to managed s r (sym (ap (λ (q : KeptMany). q.stop) e) ∙ h)
 
   -- a stopping place one frame early: a frame would stand there

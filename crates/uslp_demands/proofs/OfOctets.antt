@@ -17,12 +17,6 @@ fn_copy_octets = function octets.copy_octets.Kinds.ps octets.copy_octets.Kinds.r
 abbrev fn_put_be_number : Function
 fn_put_be_number = function octets.put_be_number.Kinds.ps octets.put_be_number.Kinds.r octets.put_be_number.Reads.Pre octets.put_be_number.Reads.Learnt
 
-abbrev fn_be_u16 : Function
-fn_be_u16 = function octets.be_u16.Kinds.ps octets.be_u16.Kinds.r octets.be_u16.Reads.Pre octets.be_u16.Reads.Learnt
-
-abbrev fn_be_u32 : Function
-fn_be_u32 = function octets.be_u32.Kinds.ps octets.be_u32.Kinds.r octets.be_u32.Reads.Pre octets.be_u32.Reads.Learnt
-
 abbrev fn_be_number : Function
 fn_be_number = function octets.be_number.Kinds.ps octets.be_number.Kinds.r octets.be_number.Reads.Pre octets.be_number.Reads.Learnt
 
@@ -50,28 +44,6 @@ put_be_number_idle e = let z : ◌≡◌ {A = ℕ} 7 1 = cc in omega arith
 -- the least significant octet first
 pub put_be_number_little : Allows fn_put_be_number ([], tt) (0x0102, (at_mut (7 ∷ 8 ∷ []), tt)) (tt, (tt, (2 ∷ 1 ∷ [], tt))) → ⊥
 put_be_number_little e = let z : ◌≡◌ {A = ℕ} 2 1 = cc in omega arith
-
-pub be_u16_settles : Settles fn_be_u16
-be_u16_settles = record { total = λ κs a. tt; same = λ κs a x y s t. alike (s ∙ sym t) refl }
-
--- the least significant octet first
-pub be_u16_little : Allows fn_be_u16 tt (1, (2, tt)) (0x0201, (tt, (tt, tt))) → ⊥
-be_u16_little e = omega arith
-
--- the low octet alone
-pub be_u16_low : Allows fn_be_u16 tt (1, (2, tt)) (2, (tt, (tt, tt))) → ⊥
-be_u16_low e = omega arith
-
-pub be_u32_settles : Settles fn_be_u32
-be_u32_settles = record { total = λ κs a. tt; same = λ κs a x y s t. alike (s ∙ sym t) refl }
-
--- the least significant octet first
-pub be_u32_little : Allows fn_be_u32 tt (1, (2, (3, (4, tt)))) (0x04030201, (tt, (tt, (tt, (tt, tt))))) → ⊥
-be_u32_little e = omega arith
-
--- the halves swapped
-pub be_u32_halves : Allows fn_be_u32 tt (1, (2, (3, (4, tt)))) (0x03040102, (tt, (tt, (tt, (tt, tt))))) → ⊥
-be_u32_halves e = omega arith
 
 pub be_number_settles : Settles fn_be_number
 be_number_settles = record { total = λ κs a. tt; same = λ κs a x y s t. alike (s ∙ sym t) refl }

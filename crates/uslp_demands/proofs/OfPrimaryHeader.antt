@@ -4,22 +4,20 @@ use mathlib.Core.Bool.{true, false}
 use mathlib.Core.List.{List, [], ◌∷◌}
 use Prim.Native.Nat.{ℕ, ◌^◌, ◌-◌}
 use native.Mathlib.Omega.{arith}
-use Rattle.uslp_kinds.specs.Answers.{paper_length}
-use Rattle.uslp_kinds.proofs.Back.{back, one_to_one, length_back, leaving_one}
+use Rattle.uslp_kinds.proofs.Back.{leaving_one, paper_one}
 use Rattle.uslp_kinds.proofs.Outcomes.{done_one}
 use Rattle.uslp_kinds.specs.declared.SourceOrDestField.TheVariants.{Source, Dest}
 use Rattle.uslp_kinds.specs.declared.BypassSequenceControlFlag.TheVariants.{SequenceControlledQoS}
 use Rattle.uslp_kinds.specs.declared.ProtocolControlCommandFlag.TheVariants.{TfdfContainsUserData}
 use Rattle.uslp_kinds.specs.declared.Refusal.TheVariants.{ShortSource, ShortTarget, BadVersion, BadCount, BadField, TooLong}
-use Rattle.uslp_kinds.specs.declared.LengthAnswer.TheVariants as length_answer
-use Rattle.uslp_primary_header.specs.Header.{paper_header, header_making, header_checking, count_setting, length_setting, with_count, with_length, header_reading, header_writing}
+use Rattle.uslp_primary_header.specs.Header.{header_making, header_checking, count_setting, length_setting, with_count, with_length, header_reading, header_writing}
 use Rattle.uslp_primary_header.specs.declared.PrimaryHeader.{PrimaryHeader}
-use Rattle.uslp_primary_header.specs.declared.HeaderAnswer.TheVariants as header_answer
-use Rattle.uslp_primary_header.proofs.RoundTrip.{header_one}
 use Rattle.uslp_primary_header.proofs as header
 use Rattle.uslp_demands.specs.Promise.{Function, function, at, at_mut, Allows, Settles}
 use Rattle.uslp_roundtrip.specs.Samples.{some, made}
 use Rattle.uslp_demands.proofs.Alike.{alike}
+use Rattle.std.specs.Borrow.{Bor}
+use Rattle.std.specs.Prelude.{Ok, Err}
 
 -- the functions, each with its promise
 abbrev fn_new : Function
@@ -64,8 +62,8 @@ fn_len_frame =
 
 abbrev fn_equals : Function
 fn_equals =
-    function header.PrimaryHeader.equals.Kinds.ps header.PrimaryHeader.equals.Kinds.r
-    header.PrimaryHeader.equals.Reads.Pre header.PrimaryHeader.equals.Reads.Learnt
+    function header.PrimaryHeaderPartialEq.eq.Kinds.ps header.PrimaryHeaderPartialEq.eq.Kinds.r
+    header.PrimaryHeaderPartialEq.eq.Reads.Pre header.PrimaryHeaderPartialEq.eq.Reads.Learnt
 
 abbrev fn_from_bytes : Function
 fn_from_bytes =
@@ -95,16 +93,16 @@ pub new_settles : Settles fn_new
 new_settles = record {
   total = λ κs a. tt;
   same = λ κs a x y s t. alike
-      (one_to_one paper_header (back header_answer.Done header_answer.Refused) header_one (s ∙ sym t)) refl;
+      (paper_one (s ∙ sym t)) refl;
 }
 
 -- a length of 0 wrapped to 65,536
-pub new_wrapped : Allows fn_new tt (0x1234, (Dest, (5, (3, (0, tt))))) (header_answer.Done (with_length 65536 made), (tt, (tt, (tt, (tt, (tt, tt)))))) → ⊥
+pub new_wrapped : Allows fn_new tt (0x1234, (Dest, (5, (3, (0, tt))))) (Ok (with_length 65536 made), (tt, (tt, (tt, (tt, (tt, tt)))))) → ⊥
 unfolding header_making
 new_wrapped e = let z : ◌≡◌ {A = ℕ} 65535 0 = ap (λ (h : PrimaryHeader). h.frame_len_field) (done_one e) in omega arith
 
 -- takes channel 64
-pub new_lax : Allows fn_new tt (0x1234, (Dest, (64, (3, (11, tt))))) (header_answer.Done made, (tt, (tt, (tt, (tt, (tt, tt)))))) → ⊥
+pub new_lax : Allows fn_new tt (0x1234, (Dest, (64, (3, (11, tt))))) (Ok made, (tt, (tt, (tt, (tt, (tt, tt)))))) → ⊥
 unfolding header_making
 new_lax e = let z : ◌≡◌ {A = ℕ} 0 1 = cc in omega arith
 
@@ -112,11 +110,11 @@ pub with_vc_frame_count_settles : Settles fn_with_vc_frame_count
 with_vc_frame_count_settles = record {
   total = λ κs a. tt;
   same = λ κs a x y s t. alike
-      (one_to_one paper_header (back header_answer.Done header_answer.Refused) header_one (s ∙ sym t)) refl;
+      (paper_one (s ∙ sym t)) refl;
 }
 
 -- takes 256 to the width itself
-pub with_vc_frame_count_bound : Allows fn_with_vc_frame_count tt (some, (1, (256, tt))) (header_answer.Done high, (tt, (tt, (tt, tt)))) → ⊥
+pub with_vc_frame_count_bound : Allows fn_with_vc_frame_count tt (some, (1, (256, tt))) (Ok high, (tt, (tt, (tt, tt)))) → ⊥
 unfolding count_setting
 with_vc_frame_count_bound e = let z : ◌≡◌ {A = ℕ} 0 1 = cc in omega arith
 
@@ -136,7 +134,7 @@ pub with_vc_frame_count_channel : Allows fn_with_vc_frame_count tt (
     vc_frame_count = 7;
   },
   (1, (7, tt)),
-) (header_answer.Refused BadField, (tt, (tt, (tt, tt)))) → ⊥
+) (Err BadField, (tt, (tt, (tt, tt)))) → ⊥
 unfolding count_setting
 with_vc_frame_count_channel e = let z : ◌≡◌ {A = ℕ} 0 1 = cc in omega arith
 
@@ -144,16 +142,16 @@ pub with_frame_len_settles : Settles fn_with_frame_len
 with_frame_len_settles = record {
   total = λ κs a. tt;
   same = λ κs a x y s t. alike
-      (one_to_one paper_header (back header_answer.Done header_answer.Refused) header_one (s ∙ sym t)) refl;
+      (paper_one (s ∙ sym t)) refl;
 }
 
 -- 65,537 wrapped into the field
-pub with_frame_len_wrapped : Allows fn_with_frame_len tt (some, (65537, tt)) (header_answer.Done (with_length 1 some), (tt, (tt, tt))) → ⊥
+pub with_frame_len_wrapped : Allows fn_with_frame_len tt (some, (65537, tt)) (Ok (with_length 1 some), (tt, (tt, tt))) → ⊥
 unfolding length_setting
 with_frame_len_wrapped e = let z : ◌≡◌ {A = ℕ} 0 1 = cc in omega arith
 
 -- refuses 65,536
-pub with_frame_len_strict : Allows fn_with_frame_len tt (some, (65536, tt)) (header_answer.Refused TooLong, (tt, (tt, tt))) → ⊥
+pub with_frame_len_strict : Allows fn_with_frame_len tt (some, (65536, tt)) (Err TooLong, (tt, (tt, tt))) → ⊥
 unfolding length_setting
 with_frame_len_strict e = let z : ◌≡◌ {A = ℕ} 0 1 = cc in omega arith
 
@@ -161,16 +159,16 @@ pub checked_settles : Settles fn_checked
 checked_settles = record {
   total = λ κs a. tt;
   same = λ κs a x y s t. alike
-      (one_to_one paper_header (back header_answer.Done header_answer.Refused) header_one (s ∙ sym t)) refl;
+      (paper_one (s ∙ sym t)) refl;
 }
 
 -- passes every header
-pub checked_lax : Allows fn_checked tt (wide, tt) (header_answer.Done wide, (tt, tt)) → ⊥
+pub checked_lax : Allows fn_checked tt (wide, tt) (Ok wide, (tt, tt)) → ⊥
 unfolding header_checking
 checked_lax e = let z : ◌≡◌ {A = ℕ} 0 1 = cc in omega arith
 
 -- judges the count before the fields
-pub checked_count_first : Allows fn_checked tt (with_count 9 (2 ^ 64 - 1) some, tt) (header_answer.Refused (BadCount (2 ^ 64 - 1) 9), (tt, tt)) → ⊥
+pub checked_count_first : Allows fn_checked tt (with_count 9 (2 ^ 64 - 1) some, tt) (Err (BadCount (2 ^ 64 - 1) 9), (tt, tt)) → ⊥
 unfolding header_checking
 checked_count_first e = let z : ◌≡◌ {A = ℕ} 0 1 = cc in omega arith
 
@@ -221,34 +219,38 @@ len_frame_wrapped e = omega arith
 pub equals_settles : Settles fn_equals
 equals_settles = record { total = λ κs a. tt; same = λ κs a x y s t. alike (s ∙ sym t) refl }
 
+-- a header that is looked at
+abbrev seen : PrimaryHeader → Bor PrimaryHeader
+seen h = record { ref_ptr = (0, 0); now = h }
+
 -- compares the width
-pub equals_width : Allows fn_equals tt (with_count 2 7 some, (some, tt)) (false, (tt, (tt, tt))) → ⊥
+pub equals_width : Allows fn_equals ([], ([], tt)) (seen (with_count 2 7 some), (seen some, tt)) (false, (tt, (tt, tt))) → ⊥
 equals_width e = let z : ◌≡◌ {A = ℕ} 0 1 = cc in omega arith
 
 -- skips the count with the width
-pub equals_count : Allows fn_equals tt (made, (some, tt)) (true, (tt, (tt, tt))) → ⊥
+pub equals_count : Allows fn_equals ([], ([], tt)) (seen made, (seen some, tt)) (true, (tt, (tt, tt))) → ⊥
 equals_count e = let z : ◌≡◌ {A = ℕ} 0 1 = cc in omega arith
 
 pub from_bytes_settles : Settles fn_from_bytes
 from_bytes_settles = record {
   total = λ κs a. tt;
   same = λ κs a x y s t. alike
-      (one_to_one paper_header (back header_answer.Done header_answer.Refused) header_one (s ∙ sym t)) refl;
+      (paper_one (s ∙ sym t)) refl;
 }
 
 -- asks for seven octets before the truncated flag
-pub from_bytes_truncated : Allows fn_from_bytes ([], tt) (at (0xC1 ∷ 0x23 ∷ 0x48 ∷ 0xA7 ∷ []), tt) (header_answer.Refused (ShortSource 4 7), (tt, tt)) → ⊥
+pub from_bytes_truncated : Allows fn_from_bytes ([], tt) (at (0xC1 ∷ 0x23 ∷ 0x48 ∷ 0xA7 ∷ []), tt) (Err (ShortSource 4 7), (tt, tt)) → ⊥
 unfolding header_reading
 from_bytes_truncated e = let z : ◌≡◌ {A = ℕ} 0 1 = cc in omega arith
 
 -- refuses what can be read
-pub from_bytes_refuser : Allows fn_from_bytes ([], tt) (at octets, tt) (header_answer.Refused (BadVersion 12), (tt, tt)) → ⊥
+pub from_bytes_refuser : Allows fn_from_bytes ([], tt) (at octets, tt) (Err (BadVersion 12), (tt, tt)) → ⊥
 unfolding header_reading
 from_bytes_refuser e = let z : ◌≡◌ {A = ℕ} 0 1 = cc in omega arith
 
 -- one header for all octets
 pub from_bytes_fixed : Allows fn_from_bytes ([], tt) (at (0xC1 ∷ 0x23 ∷ 0x40 ∷ 0xA6 ∷ 0x00 ∷ 0x0A ∷ 0x01 ∷ 0x07 ∷ []), tt)
-    (header_answer.Done some, (tt, tt)) → ⊥
+    (Ok some, (tt, tt)) → ⊥
 unfolding header_reading
 from_bytes_fixed e = let d : Dest ≡ Source = ap (λ (h : PrimaryHeader). h.source_or_dest_field) (done_one e) in let z : ◌≡◌ {A = ℕ} 0 1 = cc in omega arith
 
@@ -256,15 +258,15 @@ pub write_to_slice_settles : Settles fn_write_to_slice
 write_to_slice_settles = record {
   total = λ κs a. tt;
   same = λ κs a x y s t. let e = leaving_one (s ∙ sym t) in
-      alike (one_to_one paper_length (back length_answer.Done length_answer.Refused) length_back e.0) (λ i. (tt, (e.1 i, tt)));
+      alike (paper_one e.0) (λ i. (tt, (e.1 i, tt)));
 }
 
 -- writes nothing and says done
-pub write_to_slice_idle : Allows fn_write_to_slice ([], tt) (some, (at_mut zeros, tt)) (length_answer.Done 8, (tt, (zeros, tt))) → ⊥
+pub write_to_slice_idle : Allows fn_write_to_slice ([], tt) (some, (at_mut zeros, tt)) (Ok 8, (tt, (zeros, tt))) → ⊥
 unfolding header_writing
 write_to_slice_idle e = let z : ◌≡◌ {A = ℕ} 0 0xC1 = cc in omega arith
 
 -- looks at the room before the fields
-pub write_to_slice_room_first : Allows fn_write_to_slice ([], tt) (wide, (at_mut [], tt)) (length_answer.Refused (ShortTarget 0 16), (tt, ([], tt))) → ⊥
+pub write_to_slice_room_first : Allows fn_write_to_slice ([], tt) (wide, (at_mut [], tt)) (Err (ShortTarget 0 16), (tt, ([], tt))) → ⊥
 unfolding header_writing
 write_to_slice_room_first e = let z : ◌≡◌ {A = ℕ} 0 1 = cc in omega arith

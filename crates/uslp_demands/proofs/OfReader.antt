@@ -12,25 +12,23 @@ use Rattle.uslp_octets.specs.Octets.{AreOctets}
 use Rattle.uslp_checksum.specs.Checksum.{bit, step, feed, lows, bits, checksum_of}
 use Rattle.uslp_kinds.specs.Managed.{fecf, no_fecf}
 use Rattle.uslp_kinds.specs.Outcome.{Outcome, refused}
-use Rattle.uslp_kinds.proofs.Back.{back, one_to_one}
+use Rattle.uslp_kinds.proofs.Back.{paper_one}
 use Rattle.uslp_kinds.specs.declared.ManagedParameters.{ManagedParameters}
 use Rattle.uslp_kinds.specs.declared.SourceOrDestField.TheVariants.{Source, Dest}
 use Rattle.uslp_kinds.specs.declared.ConstructionRule.TheVariants.{PacketSpanningMultipleFrames, NoSegmentation}
-use Rattle.uslp_kinds.specs.declared.OperationalControlField.TheVariants.{Absent, Present}
 use Rattle.uslp_kinds.specs.declared.Refusal.TheVariants.{ShortSource, Truncated, BadChecksum}
 use Rattle.uslp_primary_header.specs.Header.{header_reading}
 use Rattle.uslp_primary_header.specs.declared.PrimaryHeader.{PrimaryHeader}
 use Rattle.uslp_data_field_header.specs.Field.{field_reading}
 use Rattle.uslp_data_field_header.specs.declared.TransferFrameDataFieldHeader.{TransferFrameDataFieldHeader}
-use Rattle.uslp_reader.specs.Reader.{paper_frame, frame_reading}
+use Rattle.uslp_reader.specs.Reader.{frame_reading}
 use Rattle.uslp_reader.specs.declared.TransferFrame.{TransferFrame}
-use Rattle.uslp_reader.specs.declared.FrameAnswer.TheVariants as frame_answer
-use Rattle.uslp_reader.proofs.Done.{frame_back}
 use Rattle.uslp_reader.proofs as reader
 use Rattle.uslp_demands.specs.Promise.{Function, function, at, Allows, Settles, Shows}
 use Rattle.uslp_roundtrip.specs.Samples.{some, whole, spanning, made, octets_f, read_f}
 use Rattle.uslp_roundtrip.proofs.Unequal.{shown_differ}
 use Rattle.uslp_demands.proofs.Alike.{alike}
+use Rattle.std.specs.Prelude.{Ok, Err, Some, None}
 
 -- the functions, each with its promise
 abbrev pub fn_from_bytes : Function
@@ -95,13 +93,13 @@ pub from_bytes_settles : Settles fn_from_bytes
 from_bytes_settles = record {
   total = λ κs a. tt;
   same = λ κs a x y s t. alike
-      (one_to_one paper_frame (back frame_answer.Done frame_answer.Refused) frame_back (s ∙ sym t)) refl;
+      (paper_one (s ∙ sym t)) refl;
 }
 
 -- works the data length out before the test for FRAME_TOO_SHORT
 pub from_bytes_wrapped : Allows fn_from_bytes ([], tt)
     (at (0xC1 ∷ 0x23 ∷ 0x48 ∷ 0xA6 ∷ 0x00 ∷ 0x07 ∷ 0x01 ∷ 0x07 ∷ 0xE4 ∷ 0x0A ∷ 0xF0 ∷ []), (no_fecf, tt)) (
-      frame_answer.Done (record {
+      Ok (record {
         primary_header = record {
           spacecraft_id = 0x1234;
           source_or_dest_field = Dest;
@@ -117,7 +115,7 @@ pub from_bytes_wrapped : Allows fn_from_bytes ([], tt)
           vc_frame_count = 7;
         };
         data_field_header = whole;
-        operational_control_field = Absent;
+        operational_control_field = None;
         data_start = 9;
         data_len = 0xFFFFFFFFFFFFFFFF;
       }),
@@ -128,7 +126,7 @@ from_bytes_wrapped e = let z : ◌≡◌ {A = ℕ} 0 1 = cc in omega arith
 
 -- gives TRUNCATED only after seven octets
 pub from_bytes_truncated : Allows fn_from_bytes ([], tt) (at (0xC1 ∷ 0x23 ∷ 0x48 ∷ 0xA7 ∷ []), (no_fecf, tt))
-    (frame_answer.Refused (ShortSource 4 7), (tt, (tt, tt))) → ⊥
+    (Err (ShortSource 4 7), (tt, (tt, tt))) → ⊥
 unfolding frame_reading header_reading
 from_bytes_truncated e = let z : ◌≡◌ {A = ℕ} 0 1 = cc in omega arith
 
@@ -137,7 +135,7 @@ abbrev swapped : List ℕ
 swapped = 0xC1 ∷ 0x23 ∷ 0x48 ∷ 0xA6 ∷ 0x00 ∷ 0x0C ∷ 0x01 ∷ 0x07 ∷ 0xE4 ∷ 0x0A ∷ 0xF0 ∷ 0x45 ∷ 0xB5 ∷ []
 
 abbrev Shown : List ℕ → ℕ → ℕ → Type 0
-Shown s a b = Allows fn_from_bytes ([], tt) (at s, (fecf, tt)) (frame_answer.Refused (BadChecksum a b), (tt, (tt, tt)))
+Shown s a b = Allows fn_from_bytes ([], tt) (at s, (fecf, tt)) (Err (BadChecksum a b), (tt, (tt, tt)))
 
 pub from_bytes_swapped : Shown swapped 0x45B5 0xB545
 unfolding frame_reading header_reading field_reading checksum_of bits lows feed step bit
@@ -157,11 +155,11 @@ from_bytes_residue e = let z = (shown_one (from_bytes_swapped ∙ sym e)).1 in o
 
 -- shows the two exchanged, or one of them twice, whatever the frame
 module _ (κs : Lfts 1) (s : Bor (List ℕ)) (oct : AreOctets s.now) (managed : ManagedParameters) (a b : ℕ)
-    (shown : Allows fn_from_bytes κs (s, (managed, tt)) (frame_answer.Refused (BadChecksum a b), (tt, (tt, tt)))) where
+    (shown : Allows fn_from_bytes κs (s, (managed, tt)) (Err (BadChecksum a b), (tt, (tt, tt)))) where
   pub from_bytes_twice : a ≡ b → ⊥
   from_bytes_twice = shown_differ s.now oct managed a b (sym shown)
 
-  pub from_bytes_exchanged : Allows fn_from_bytes κs (s, (managed, tt)) (frame_answer.Refused (BadChecksum b a), (tt, (tt, tt))) → ⊥
+  pub from_bytes_exchanged : Allows fn_from_bytes κs (s, (managed, tt)) (Err (BadChecksum b a), (tt, (tt, tt))) → ⊥
   from_bytes_exchanged e = from_bytes_twice (shown_one (shown ∙ sym e)).0
 
 pub len_frame_settles : Settles fn_len_frame
@@ -234,7 +232,7 @@ pub operational_control_field_settles : Settles fn_operational_control_field
 operational_control_field_settles = record { total = λ κs a. tt; same = λ κs a x y s t. alike (s ∙ sym t) refl }
 
 -- an OCF of 0 where there is none
-pub operational_control_field_zero : Allows fn_operational_control_field tt (read_f, tt) (Present 0, (tt, tt)) → ⊥
+pub operational_control_field_zero : Allows fn_operational_control_field tt (read_f, tt) (Some 0, (tt, tt)) → ⊥
 operational_control_field_zero e = let z : ◌≡◌ {A = ℕ} 0 1 = cc in omega arith
 
 pub raw_frame_settles : Settles fn_raw_frame
@@ -262,5 +260,5 @@ data_of_shows = record { total = λ κs a. tt; same = λ κs a x y s t. (s.lies 
 
 -- shows octets on a refusal
 pub data_of_refused : (r : Bor (List ℕ)) → r.now ≡ 1 ∷ []
-    → Allows fn_data_of ([], tt) (frame_answer.Refused Truncated, (at (1 ∷ []), tt)) (r, (tt, (tt, tt))) → ⊥
+    → Allows fn_data_of ([], tt) (Err Truncated, (at (1 ∷ []), tt)) (r, (tt, (tt, tt))) → ⊥
 data_of_refused r h e = let z : ◌≡◌ {A = ℕ} 0 1 = cc in omega arith

@@ -1,33 +1,31 @@
 -- The promises of `uslp_record` settle each call, and shut out two tempting wrong answers of each function.
 use mathlib.Core.Path.{◌≡◌, refl, sym, ap, ◌∙◌}
 use mathlib.Core.Bool.{true}
+use mathlib.Core.List.{[]}
 use Prim.Native.Nat.{ℕ, ◌^◌}
 use native.Mathlib.Omega.{arith}
 use lib.ListN.{get_or}
-use Rattle.uslp_kinds.proofs.Back.{back, one_to_one}
+use Rattle.uslp_kinds.proofs.Back.{paper_one}
 use Rattle.uslp_kinds.proofs.Outcomes.{not_done, done_one}
-use Rattle.uslp_kinds.specs.declared.DoneAnswer.TheVariants as done_answer
 use Rattle.uslp_kinds.specs.declared.Refusal.TheVariants.{NotOpen, TotalFull}
 use Rattle.uslp_record.specs.Slots.{find, vacant, slot_of, state_at, put, empty_record}
-use Rattle.uslp_record.specs.Record.{Kept, keeping, paper_total, paper_state, opening, closing, showing, missing_in, too_much_in, console_total}
-use Rattle.uslp_record.specs.Judging.{paper_arrival, paper_slot, judging, slot_judging}
+use Rattle.uslp_record.specs.Record.{Kept, keeping, opening, closing, showing, missing_in, too_much_in, console_total}
+use Rattle.uslp_record.specs.Judging.{judging, slot_judging}
 use Rattle.uslp_kinds.specs.declared.BypassSequenceControlFlag.TheVariants.{SequenceControlledQoS, ExpeditedQoS}
 use Rattle.uslp_record.specs.declared.Channel.{Channel}
 use Rattle.uslp_record.specs.declared.ChannelRecord.{ChannelRecord}
 use Rattle.uslp_record.specs.declared.SlotState.{SlotState}
 use Rattle.uslp_record.specs.declared.SlotState.TheVariants.{Closed, Opened, Heard}
-use Rattle.uslp_record.specs.declared.TotalAnswer.TheVariants as total_answer
-use Rattle.uslp_record.specs.declared.StateAnswer.TheVariants as state_answer
 use Rattle.uslp_record.specs.declared.Arrival.TheVariants.{New, Repeat, Late}
 use Rattle.uslp_record.specs.declared.Arrival.{Arrival}
-use Rattle.uslp_record.specs.declared.ArrivalAnswer.TheVariants as arrival_answer
 use Rattle.uslp_record.specs.declared.Slot.{Slot}
-use Rattle.uslp_record.specs.declared.SlotAnswer.TheVariants as slot_answer
-use Rattle.uslp_record.proofs.Back.{total_back, state_back, arrival_back, slot_back, keeping_one}
+use Rattle.uslp_record.proofs.Back.{keeping_one}
 use Rattle.uslp_record.proofs as channels
 use Rattle.uslp_demands.specs.Promise.{Function, function, Allows, Settles, Program, Keeps}
 use Rattle.uslp_demands.specs.Cases.{channel, last_heard}
 use Rattle.uslp_demands.proofs.Alike.{alike, done_alike}
+use Rattle.std.specs.Borrow.{Bor}
+use Rattle.std.specs.Prelude.{Option, Ok, Err, Some, None}
 
 -- the functions, each with its promise
 abbrev fn_new : Function
@@ -57,11 +55,13 @@ fn_total_missing =
 
 abbrev fn_same_channel : Function
 fn_same_channel =
-    function channels.same_channel.Kinds.ps channels.same_channel.Kinds.r
-    channels.same_channel.Reads.Pre channels.same_channel.Reads.Learnt
+    function channels.ChannelPartialEq.eq.Kinds.ps channels.ChannelPartialEq.eq.Kinds.r
+    channels.ChannelPartialEq.eq.Reads.Pre channels.ChannelPartialEq.eq.Reads.Learnt
 
 abbrev fn_search : Function
-fn_search = function channels.search.Kinds.ps channels.search.Kinds.r channels.search.Reads.Pre channels.search.Reads.Learnt
+fn_search =
+    function channels.ChannelRecord.search.Kinds.ps channels.ChannelRecord.search.Kinds.r
+    channels.ChannelRecord.search.Reads.Pre channels.ChannelRecord.search.Reads.Learnt
 
 abbrev pub fn_hear_count : Function
 fn_hear_count =
@@ -108,13 +108,13 @@ open_channel_settles = record {
 
 -- says done and opens nothing
 pub open_channel_idle : Allows fn_open_channel tt (empty_record, (channel, (1, tt)))
-    (record { answer = done_answer.Done; next = empty_record }, (tt, (tt, (tt, tt)))) → ⊥
+    (record { answer = Ok tt; next = empty_record }, (tt, (tt, (tt, tt)))) → ⊥
 unfolding opening find vacant
 open_channel_idle e = let d : Closed ≡ Opened channel 1 = ap first_of e in let z : ◌≡◌ {A = ℕ} 0 1 = cc in omega arith
 
 -- takes width 0
 pub open_channel_width : Allows fn_open_channel tt (empty_record, (channel, (0, tt)))
-    (record { answer = done_answer.Done; next = put empty_record 0 (Opened channel 0) }, (tt, (tt, (tt, tt)))) → ⊥
+    (record { answer = Ok tt; next = put empty_record 0 (Opened channel 0) }, (tt, (tt, (tt, tt)))) → ⊥
 unfolding opening
 open_channel_width e = let d : Opened channel 0 ≡ Closed = ap first_of e in let z : ◌≡◌ {A = ℕ} 0 1 = cc in omega arith
 
@@ -126,12 +126,12 @@ close_channel_settles = record {
 }
 
 -- says done and closes nothing
-pub close_channel_idle : Allows fn_close_channel tt (opened, (channel, tt)) (record { answer = done_answer.Done; next = opened }, (tt, (tt, tt))) → ⊥
+pub close_channel_idle : Allows fn_close_channel tt (opened, (channel, tt)) (record { answer = Ok tt; next = opened }, (tt, (tt, tt))) → ⊥
 unfolding closing find
 close_channel_idle e = let d : Opened channel 1 ≡ Closed = ap first_of e in let z : ◌≡◌ {A = ℕ} 0 1 = cc in omega arith
 
 -- says done of a channel that is not open
-pub close_channel_lax : Allows fn_close_channel tt (empty_record, (channel, tt)) (record { answer = done_answer.Done; next = empty_record }, (tt, (tt, tt))) → ⊥
+pub close_channel_lax : Allows fn_close_channel tt (empty_record, (channel, tt)) (record { answer = Ok tt; next = empty_record }, (tt, (tt, tt))) → ⊥
 unfolding closing find
 close_channel_lax e = let d = (keeping_one e).0 in let z : ◌≡◌ {A = ℕ} 0 1 = cc in omega arith
 
@@ -139,16 +139,16 @@ pub channel_state_settles : Settles fn_channel_state
 channel_state_settles = record {
   total = λ κs a. tt;
   same = λ κs a x y s t. alike
-      (one_to_one paper_state (back state_answer.Done state_answer.Refused) state_back (s ∙ sym t)) refl;
+      (paper_one (s ∙ sym t)) refl;
 }
 
 -- a closed slot for a channel that is not open
-pub channel_state_closed : Allows fn_channel_state tt (empty_record, (channel, tt)) (state_answer.Done Closed, (tt, (tt, tt))) → ⊥
+pub channel_state_closed : Allows fn_channel_state tt (empty_record, (channel, tt)) (Ok Closed, (tt, (tt, tt))) → ⊥
 unfolding showing find
 channel_state_closed e = let z : ◌≡◌ {A = ℕ} 0 1 = cc in omega arith
 
 -- refuses an open channel
-pub channel_state_refuser : Allows fn_channel_state tt (opened, (channel, tt)) (state_answer.Refused NotOpen, (tt, (tt, tt))) → ⊥
+pub channel_state_refuser : Allows fn_channel_state tt (opened, (channel, tt)) (Err NotOpen, (tt, (tt, tt))) → ⊥
 unfolding showing find
 channel_state_refuser e = let z : ◌≡◌ {A = ℕ} 0 1 = cc in omega arith
 
@@ -156,30 +156,34 @@ pub total_missing_settles : Settles fn_total_missing
 total_missing_settles = record {
   total = λ κs a. tt;
   same = λ κs a x y s t. alike
-      (one_to_one paper_total (back total_answer.Done total_answer.Refused) total_back (s ∙ sym t)) refl;
+      (paper_one (s ∙ sym t)) refl;
 }
 
 -- adds up what no call made
-pub total_missing_lax : Allows fn_total_missing tt (full, tt) (total_answer.Done (2 ^ 60), (tt, tt)) → ⊥
+pub total_missing_lax : Allows fn_total_missing tt (full, tt) (Ok (2 ^ 60), (tt, tt)) → ⊥
 unfolding console_total too_much_in missing_in
 total_missing_lax e = let z : ◌≡◌ {A = ℕ} 0 1 = cc in omega arith
 
 -- refuses an empty record
-pub total_missing_full : Allows fn_total_missing tt (empty_record, tt) (total_answer.Refused TotalFull, (tt, tt)) → ⊥
+pub total_missing_full : Allows fn_total_missing tt (empty_record, tt) (Err TotalFull, (tt, tt)) → ⊥
 unfolding console_total too_much_in missing_in
 total_missing_full e = let z : ◌≡◌ {A = ℕ} 0 1 = cc in omega arith
+
+-- a channel that is looked at
+abbrev seen : Channel → Bor Channel
+seen k = record { ref_ptr = (0, 0); now = k }
 
 pub same_channel_settles : Settles fn_same_channel
 same_channel_settles = record { total = λ κs a. tt; same = λ κs a x y s t. alike (s ∙ sym t) refl }
 
 -- compares the channel number alone
-pub same_channel_number : Allows fn_same_channel tt
-    (channel, (record { spacecraft_id = 0; vc_id = 5; sequence_control_flag = SequenceControlledQoS }, tt)) (true, (tt, (tt, tt))) → ⊥
+pub same_channel_number : Allows fn_same_channel ([], ([], tt))
+    (seen channel, (seen (record { spacecraft_id = 0; vc_id = 5; sequence_control_flag = SequenceControlledQoS }), tt)) (true, (tt, (tt, tt))) → ⊥
 same_channel_number e = let z : ◌≡◌ {A = ℕ} 0 1 = cc in omega arith
 
 -- compares the spacecraft alone
-pub same_channel_craft : Allows fn_same_channel tt
-    (channel, (record { spacecraft_id = 0x1234; vc_id = 6; sequence_control_flag = SequenceControlledQoS }, tt)) (true, (tt, (tt, tt))) → ⊥
+pub same_channel_craft : Allows fn_same_channel ([], ([], tt))
+    (seen channel, (seen (record { spacecraft_id = 0x1234; vc_id = 6; sequence_control_flag = SequenceControlledQoS }), tt)) (true, (tt, (tt, tt))) → ⊥
 same_channel_craft e = let z : ◌≡◌ {A = ℕ} 0 1 = cc in omega arith
 
 -- the expedited channel of the same number
@@ -187,21 +191,21 @@ abbrev rushed : Channel
 rushed = record { spacecraft_id = 0x1234; vc_id = 5; sequence_control_flag = ExpeditedQoS }
 
 -- ignores the flag
-pub same_channel_flag : Allows fn_same_channel tt (channel, (rushed, tt)) (true, (tt, (tt, tt))) → ⊥
+pub same_channel_flag : Allows fn_same_channel ([], ([], tt)) (seen channel, (seen rushed, tt)) (true, (tt, (tt, tt))) → ⊥
 same_channel_flag e = let z : ◌≡◌ {A = ℕ} 0 1 = cc in omega arith
 
 pub search_settles : Settles fn_search
 search_settles = record { total = λ κs a. tt; same = λ κs a x y s t. alike (s ∙ sym t) refl }
 
 -- the last slot that holds the channel
-pub search_last : Allows fn_search tt (put opened 3 (Opened channel 2), (channel, tt)) (3, (tt, (tt, tt))) → ⊥
+pub search_last : Allows fn_search tt (put opened 3 (Opened channel 2), (channel, tt)) (Some 3, (tt, (tt, tt))) → ⊥
 unfolding find
-search_last e = omega arith
+search_last e = let z : ◌≡◌ {A = ℕ} 3 0 = cc in omega arith
 
 -- the first slot where none holds it
-pub search_zero : Allows fn_search tt (empty_record, (channel, tt)) (0, (tt, (tt, tt))) → ⊥
+pub search_zero : Allows fn_search tt (empty_record, (channel, tt)) (Some 0, (tt, (tt, tt))) → ⊥
 unfolding find
-search_zero e = omega arith
+search_zero e = let z : ◌≡◌ {A = ℕ} 0 1 = cc in omega arith
 
 -- a search that ignores the flag: it finds the same slot for both channels of a number
 pub search_flag : (f : Program fn_search) → Keeps fn_search f
@@ -209,8 +213,9 @@ pub search_flag : (f : Program fn_search) → Keeps fn_search f
     → ⊥
 unfolding find
 search_flag f keeps same =
-    let z : ◌≡◌ {A = ℕ} 0 8 =
-    sym (keeps tt (opened, (channel, tt))) ∙ same opened channel rushed refl refl ∙ keeps tt (opened, (rushed, tt)) in omega arith
+    let d : ◌≡◌ {A = Option ℕ} (Some 0) None =
+    sym (keeps tt (opened, (channel, tt))) ∙ same opened channel rushed refl refl ∙ keeps tt (opened, (rushed, tt)) in
+    let z : ◌≡◌ {A = ℕ} 0 1 = cc in omega arith
 
 pub hear_count_settles : Settles fn_hear_count
 hear_count_settles = record {
@@ -218,7 +223,7 @@ hear_count_settles = record {
   same = λ κs a x y s t. let e = keeping_one (s ∙ sym t) in
       alike
       (λ i. record {
-        answer = one_to_one paper_arrival (back arrival_answer.Done arrival_answer.Refused) arrival_back {x = x.0.answer} {y = y.0.answer} e.0 i;
+        answer = paper_one {x = x.0.answer} {y = y.0.answer} e.0 i;
         next = e.1 i;
       })
       refl;
@@ -226,25 +231,25 @@ hear_count_settles = record {
 
 -- changes a slot that does not hold the channel
 pub hear_count_elsewhere : (s : SlotState)
-    → Allows fn_hear_count tt (opened, (channel, (1, (7, tt)))) (record { answer = arrival_answer.Done (New 0); next = put opened 3 s }, (tt, (tt, (tt, (tt, tt)))))
+    → Allows fn_hear_count tt (opened, (channel, (1, (7, tt)))) (record { answer = Ok (New 0); next = put opened 3 s }, (tt, (tt, (tt, (tt, tt)))))
     → ⊥
 unfolding judging find
 hear_count_elsewhere s e = let z : ◌≡◌ {A = ℕ} 0 1 = ap (λ (q : Kept Arrival). handed_in (first_of q)) e in omega arith
 
 -- takes a count that does not fit its width: the record would not be restored once it is saved
 pub hear_count_unfit : (a : Arrival) (q : ChannelRecord)
-    → Allows fn_hear_count tt (opened, (channel, (1, (300, tt)))) (record { answer = arrival_answer.Done a; next = q }, (tt, (tt, (tt, (tt, tt))))) → ⊥
+    → Allows fn_hear_count tt (opened, (channel, (1, (300, tt)))) (record { answer = Ok a; next = q }, (tt, (tt, (tt, (tt, tt))))) → ⊥
 unfolding judging find
 hear_count_unfit a q e = not_done (sym (keeping_one e).0)
 
 -- half of M ahead taken as LATE; a REPEAT counted as handed on
 pub hear_count_half : (q : ChannelRecord)
-    → Allows fn_hear_count tt (last_heard 1 0, (channel, (1, (128, tt)))) (record { answer = arrival_answer.Done Late; next = q }, (tt, (tt, (tt, (tt, tt))))) → ⊥
+    → Allows fn_hear_count tt (last_heard 1 0, (channel, (1, (128, tt)))) (record { answer = Ok Late; next = q }, (tt, (tt, (tt, (tt, tt))))) → ⊥
 unfolding judging find
 hear_count_half q e = let d : Late ≡ New 127 = done_one (keeping_one e).0 in let z : ◌≡◌ {A = ℕ} 0 1 = cc in omega arith
 
 pub hear_count_repeat : (q : ChannelRecord) → handed_in (state_at q 0) ≡ 2
-    → Allows fn_hear_count tt (last_heard 1 0, (channel, (1, (0, tt)))) (record { answer = arrival_answer.Done Repeat; next = q }, (tt, (tt, (tt, (tt, tt))))) → ⊥
+    → Allows fn_hear_count tt (last_heard 1 0, (channel, (1, (0, tt)))) (record { answer = Ok Repeat; next = q }, (tt, (tt, (tt, (tt, tt))))) → ⊥
 unfolding judging find
 hear_count_repeat q h e = let z : ◌≡◌ {A = ℕ} 2 1 = sym h ∙ ap (λ (v : Kept Arrival). handed_in (first_of v)) e in omega arith
 
@@ -253,24 +258,24 @@ slot_judge_count_settles = record {
   total = λ κs a. tt;
   same = λ κs a x y s t.
       alike
-      (one_to_one paper_slot (back (λ (z : Arrival × Slot). slot_answer.Done z.0 z.1) slot_answer.Refused) slot_back
+      (paper_one
       {x = x.0} {y = y.0} (s ∙ sym t))
       refl;
 }
 
 -- a slot in which a frame of another width is counted; a REPEAT that empties it
 pub slot_judge_count_width : (x : Slot)
-    → Allows fn_slot_judge_count tt (slot_of (Opened channel 1), (channel, (2, (7, tt)))) (slot_answer.Done (New 0) x, (tt, (tt, (tt, (tt, tt))))) → ⊥
+    → Allows fn_slot_judge_count tt (slot_of (Opened channel 1), (channel, (2, (7, tt)))) (Ok (New 0, x), (tt, (tt, (tt, (tt, tt))))) → ⊥
 unfolding slot_judging
 slot_judge_count_width x e = not_done (sym e)
 
 -- a count that does not fit its width
 pub slot_judge_count_unfit : (a : Arrival) (x : Slot)
-    → Allows fn_slot_judge_count tt (slot_of (Opened channel 1), (channel, (1, (300, tt)))) (slot_answer.Done a x, (tt, (tt, (tt, (tt, tt))))) → ⊥
+    → Allows fn_slot_judge_count tt (slot_of (Opened channel 1), (channel, (1, (300, tt)))) (Ok (a, x), (tt, (tt, (tt, (tt, tt))))) → ⊥
 unfolding slot_judging
 slot_judge_count_unfit a x e = not_done (sym e)
 
 pub slot_judge_count_empties : Allows fn_slot_judge_count tt (slot_of (state_at (last_heard 1 0) 0), (channel, (1, (0, tt))))
-    (slot_answer.Done Repeat (slot_of (Opened channel 1)), (tt, (tt, (tt, (tt, tt))))) → ⊥
+    (Ok (Repeat, slot_of (Opened channel 1)), (tt, (tt, (tt, (tt, tt))))) → ⊥
 unfolding slot_judging
 slot_judge_count_empties e = let z : ◌≡◌ {A = ℕ} 0 1 = ap (λ (x : Arrival × Slot). handed_in x.1.state) (done_one e) in omega arith

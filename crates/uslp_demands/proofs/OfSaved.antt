@@ -9,9 +9,7 @@ use lib.Dec.{lit<, lit≤}
 use lib.ListN.{length, drop}
 use Rattle.uslp_octets.specs.Octets.{word}
 use Rattle.uslp_kinds.specs.Outcome.{done, refused, Written, leaving}
-use Rattle.uslp_kinds.specs.Answers.{paper_done, paper_length}
-use Rattle.uslp_kinds.proofs.Back.{back, one_to_one, length_back, leaving_one}
-use Rattle.uslp_kinds.specs.declared.LengthAnswer.TheVariants as length_answer
+use Rattle.uslp_kinds.proofs.Back.{leaving_one, paper_one}
 use Rattle.uslp_kinds.proofs.Outcomes.{not_done}
 use Rattle.uslp_record.specs.Slots.{state_holds}
 use Rattle.uslp_record.specs.Record.{Kept, keeping, most}
@@ -37,6 +35,8 @@ use Rattle.uslp_saved.proofs.Entries.{flags_read}
 use Rattle.uslp_saved.proofs as saved
 use Rattle.uslp_demands.specs.Promise.{Function, function, at, at_mut, Allows, Settles, Program, Keeps}
 use Rattle.uslp_demands.proofs.Alike.{alike, done_alike}
+use Rattle.std.specs.Prelude.{Ok}
+use Rattle.uslp_kinds.specs.Answers.{paper}
 
 -- the functions, each with its promise
 abbrev pub fn_save : Function
@@ -49,7 +49,7 @@ pub save_settles : Settles fn_save
 save_settles = record {
   total = λ κs a. tt;
   same = λ κs a x y s t. let e = leaving_one (s ∙ sym t) in
-      alike (one_to_one paper_length (back length_answer.Done length_answer.Refused) length_back e.0) (λ i. (tt, (tt, (e.1 i, tt))));
+      alike (paper_one e.0) (λ i. (tt, (tt, (e.1 i, tt))));
 }
 
 pub restore_settles : Settles fn_restore
@@ -64,27 +64,27 @@ abbrev zeros : List ℕ
 zeros = 0 ∷ 0 ∷ 0 ∷ 0 ∷ 0 ∷ 0 ∷ 0 ∷ 0 ∷ 0 ∷ 0 ∷ 0 ∷ 0 ∷ []
 
 pub save_unsorted : Allows fn_save ([], tt) (wrong.two, (One, (at_mut zeros, tt)))
-    (length_answer.Done 10, (tt, (tt, (2 ∷ 0x12 ∷ 0x34 ∷ 5 ∷ 1 ∷ 0x12 ∷ 0x33 ∷ 63 ∷ 7 ∷ 0 ∷ 0 ∷ 0 ∷ [], tt)))) → ⊥
+    (Ok 10, (tt, (tt, (2 ∷ 0x12 ∷ 0x34 ∷ 5 ∷ 1 ∷ 0x12 ∷ 0x33 ∷ 63 ∷ 7 ∷ 0 ∷ 0 ∷ 0 ∷ [], tt)))) → ⊥
 unfolding saving says_all rows insert sorted
 save_unsorted e = let z : ◌≡◌ {A = ℕ} 0x34 0x33 = cc in omega arith
 
 pub save_flag_unsorted : Allows fn_save ([], tt) (wrong.mixed, (Two, (at_mut zeros, tt)))
-    (length_answer.Done 12, (tt, (tt, (2 ∷ 0x12 ∷ 0x34 ∷ 5 ∷ 1 ∷ 1 ∷ 0x12 ∷ 0x34 ∷ 5 ∷ 0 ∷ 7 ∷ 0 ∷ [], tt)))) → ⊥
+    (Ok 12, (tt, (tt, (2 ∷ 0x12 ∷ 0x34 ∷ 5 ∷ 1 ∷ 1 ∷ 0x12 ∷ 0x34 ∷ 5 ∷ 0 ∷ 7 ∷ 0 ∷ [], tt)))) → ⊥
 unfolding saving says_all rows insert sorted
 save_flag_unsorted e = let z : ◌≡◌ {A = ℕ} 1 0 = cc in omega arith
 
 pub save_late_slot : Allows fn_save ([], tt) (wrong.twice, (One, (at_mut zeros, tt)))
-    (length_answer.Done 10, (tt, (tt, (2 ∷ 0x12 ∷ 0x34 ∷ 5 ∷ 1 ∷ 0x12 ∷ 0x34 ∷ 5 ∷ 7 ∷ 0 ∷ 0 ∷ 0 ∷ [], tt)))) → ⊥
+    (Ok 10, (tt, (tt, (2 ∷ 0x12 ∷ 0x34 ∷ 5 ∷ 1 ∷ 0x12 ∷ 0x34 ∷ 5 ∷ 7 ∷ 0 ∷ 0 ∷ 0 ∷ [], tt)))) → ⊥
 unfolding saving says_all rows insert sorted
 save_late_slot e = let z : ◌≡◌ {A = ℕ} 1 7 = cc in omega arith
 
-pub save_idle : Allows fn_save ([], tt) (wrong.two, (One, (at_mut zeros, tt))) (length_answer.Done 10, (tt, (tt, (zeros, tt)))) → ⊥
+pub save_idle : Allows fn_save ([], tt) (wrong.two, (One, (at_mut zeros, tt))) (Ok 10, (tt, (tt, (zeros, tt)))) → ⊥
 unfolding saving says_all rows insert sorted
 save_idle e = let z : ◌≡◌ {A = ℕ} 0 2 = cc in omega arith
 
 -- what a program leaves that saves, as the definition sees it
 abbrev pub saver_of : Program fn_save → Form → ChannelRecord → List ℕ → Written ℕ
-saver_of f g r b = let x = f ([], tt) (r, (g, (at_mut b, tt))) in leaving (paper_length x.0) x.1.1.1.0
+saver_of f g r b = let x = f ([], tt) (r, (g, (at_mut b, tt))) in leaving (paper x.0) x.1.1.1.0
 
 -- any program that keeps the promise of `save`
 module _ (f : Program fn_save) (keeps : Keeps fn_save f) (r : ChannelRecord) (b : List ℕ) where
@@ -109,7 +109,7 @@ module _ (f : Program fn_save) (keeps : Keeps fn_save f) (r : ChannelRecord) (b 
 
 -- what a program leaves that restores, as the definition sees it
 abbrev pub restorer_of : Program fn_restore → Form → ChannelRecord → List ℕ → Kept (Unit {0})
-restorer_of f g r s = let x = f ([], tt) (r, (g, (at s, tt))) in keeping (paper_done x.0.answer) x.0.next
+restorer_of f g r s = let x = f ([], tt) (r, (g, (at s, tt))) in keeping (paper x.0.answer) x.0.next
 
 -- any program that keeps the promise of `restore`, of either form
 module _ (f : Program fn_restore) (keeps : Keeps fn_restore f) (g : Form) (r : ChannelRecord) where

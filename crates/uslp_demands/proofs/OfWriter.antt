@@ -7,21 +7,18 @@ use Prim.Native.Nat.{ℕ}
 use native.Mathlib.Omega.{arith}
 use lib.ListN.{get_or}
 use denote.Ref.{Bor, MutBor, as_bor}
-use Rattle.uslp_kinds.specs.Answers.{paper_length}
-use Rattle.uslp_kinds.proofs.Back.{back, one_to_one, length_back, leaving_one}
+use Rattle.uslp_kinds.proofs.Back.{leaving_one, paper_one}
 use Rattle.uslp_kinds.proofs.Outcomes.{done_one}
 use Rattle.uslp_kinds.specs.declared.Refusal.TheVariants.{ShortTarget}
-use Rattle.uslp_kinds.specs.declared.LengthAnswer.TheVariants as length_answer
 use Rattle.uslp_checksum.specs.Checksum.{bit, step, feed, lows, bits, checksum_of}
 use Rattle.uslp_writer.specs.Frame.{frame_length, frame_writing}
-use Rattle.uslp_writer.specs.Reserved.{paper_reserved, reserving, finish_length}
+use Rattle.uslp_writer.specs.Reserved.{reserving, finish_length}
 use Rattle.uslp_writer.specs.declared.TransferFrameCreatorWithReservedData.{TransferFrameCreatorWithReservedData}
-use Rattle.uslp_writer.specs.declared.ReservedAnswer.TheVariants as reserved_answer
-use Rattle.uslp_writer.proofs.Paths.{reserved_back}
 use Rattle.uslp_writer.proofs as frame
 use Rattle.uslp_demands.specs.Promise.{Function, function, at, at_mut, Allows, Settles, Shows}
 use Rattle.uslp_roundtrip.specs.Samples.{plain, flagged_only, zeros}
 use Rattle.uslp_demands.proofs.Alike.{alike}
+use Rattle.std.specs.Prelude.{Ok, Err}
 
 -- the functions, each with its promise
 abbrev fn_len_written : Function
@@ -78,16 +75,16 @@ pub len_written_settles : Settles fn_len_written
 len_written_settles = record {
   total = λ κs a. tt;
   same = λ κs a x y s t. alike
-      (one_to_one paper_length (back length_answer.Done length_answer.Refused) length_back (s ∙ sym t)) refl;
+      (paper_one (s ∙ sym t)) refl;
 }
 
 -- one octet too many, its length wrapped
-pub len_written_wrapped : Allows fn_len_written tt (plain, (65529, tt)) (length_answer.Done 0, (tt, (tt, tt))) → ⊥
+pub len_written_wrapped : Allows fn_len_written tt (plain, (65529, tt)) (Ok 0, (tt, (tt, tt))) → ⊥
 unfolding frame_length
 len_written_wrapped e = let z : ◌≡◌ {A = ℕ} 0 1 = cc in omega arith
 
 -- an OCF flag with no OCF
-pub len_written_lax : Allows fn_len_written tt (flagged_only, (2, tt)) (length_answer.Done 15, (tt, (tt, tt))) → ⊥
+pub len_written_lax : Allows fn_len_written tt (flagged_only, (2, tt)) (Ok 15, (tt, (tt, tt))) → ⊥
 unfolding frame_length
 len_written_lax e = let z : ◌≡◌ {A = ℕ} 0 1 = cc in omega arith
 
@@ -95,18 +92,18 @@ pub write_to_slice_settles : Settles fn_write_to_slice
 write_to_slice_settles = record {
   total = λ κs a. tt;
   same = λ κs a x y s t. let e = leaving_one (s ∙ sym t) in
-      alike (one_to_one paper_length (back length_answer.Done length_answer.Refused) length_back e.0) (λ i. (tt, (tt, (e.1 i, tt))));
+      alike (paper_one e.0) (λ i. (tt, (tt, (e.1 i, tt))));
 }
 
 -- writes nothing and says done
 pub write_to_slice_idle : Allows fn_write_to_slice ([], ([], tt)) (plain, (at (0x0A ∷ 0xF0 ∷ []), (at_mut zeros, tt)))
-    (length_answer.Done 10, (tt, (tt, (zeros, tt)))) → ⊥
+    (Ok 10, (tt, (tt, (zeros, tt)))) → ⊥
 unfolding frame_writing
 write_to_slice_idle e = let z : ◌≡◌ {A = ℕ} 0 0xC1 = cc in omega arith
 
 -- writes a frame whose OCF flag has no OCF
 pub write_to_slice_lax : Allows fn_write_to_slice ([], ([], tt)) (flagged_only, (at [], (at_mut [], tt)))
-    (length_answer.Refused (ShortTarget 0 13), (tt, (tt, ([], tt)))) → ⊥
+    (Err (ShortTarget 0 13), (tt, (tt, ([], tt)))) → ⊥
 unfolding frame_writing
 write_to_slice_lax e = let z : ◌≡◌ {A = ℕ} 0 1 = cc in omega arith
 
@@ -114,12 +111,12 @@ pub reserve_settles : Settles fn_new
 reserve_settles = record {
   total = λ κs a. tt;
   same = λ κs a x y s t. let e = leaving_one (s ∙ sym t) in
-      alike (one_to_one paper_reserved (back reserved_answer.Done reserved_answer.Refused) reserved_back e.0) (λ i. (tt, (tt, (e.1 i, tt))));
+      alike (paper_one e.0) (λ i. (tt, (tt, (e.1 i, tt))));
 }
 
 -- clears the data area
 pub reserve_cleared : Allows fn_new ([], tt) (plain, (2, (at_mut (1 ∷ 1 ∷ 1 ∷ 1 ∷ 1 ∷ 1 ∷ 1 ∷ 1 ∷ 1 ∷ 1 ∷ []), tt))) (
-  reserved_answer.Done (record { data_index = 8; data_size = 2; len_written = 10; has_fecf = false }),
+  Ok (record { data_index = 8; data_size = 2; len_written = 10; has_fecf = false }),
   (tt, (tt, (0xC1 ∷ 0x23 ∷ 0x48 ∷ 0xA6 ∷ 0 ∷ 9 ∷ 0 ∷ 0xE4 ∷ 0 ∷ 0 ∷ [], tt))),
 ) → ⊥
 unfolding reserving
@@ -127,7 +124,7 @@ reserve_cleared e = let z : ◌≡◌ {A = ℕ} 0 1 = cc in omega arith
 
 -- says that the data start behind the primary header
 pub reserve_start : Allows fn_new ([], tt) (plain, (2, (at_mut (1 ∷ 1 ∷ 1 ∷ 1 ∷ 1 ∷ 1 ∷ 1 ∷ 1 ∷ 1 ∷ 1 ∷ []), tt))) (
-  reserved_answer.Done (record { data_index = 7; data_size = 2; len_written = 10; has_fecf = false }),
+  Ok (record { data_index = 7; data_size = 2; len_written = 10; has_fecf = false }),
   (tt, (tt, (0xC1 ∷ 0x23 ∷ 0x48 ∷ 0xA6 ∷ 0 ∷ 9 ∷ 0 ∷ 0xE4 ∷ 1 ∷ 1 ∷ [], tt))),
 ) → ⊥
 unfolding reserving
@@ -173,15 +170,15 @@ fill_settles = record {
   total = λ κs a. tt;
   same = λ κs a x y s t.
       let e = leaving_one (s ∙ sym t) in
-      alike (one_to_one paper_length (back length_answer.Done length_answer.Refused) length_back {x = x.0} {y = y.0} e.0) (λ i. (tt, (tt, (e.1 i, tt))));
+      alike (paper_one {x = x.0} {y = y.0} e.0) (λ i. (tt, (tt, (e.1 i, tt))));
 }
 
 -- lays nothing; lays over the octets before the area
-pub fill_idle : Allows fn_fill ([], ([], tt)) (second, (at (9 ∷ []), (at_mut (7 ∷ 7 ∷ []), tt))) (length_answer.Done 1, (tt, (tt, (7 ∷ 7 ∷ [], tt)))) → ⊥
+pub fill_idle : Allows fn_fill ([], ([], tt)) (second, (at (9 ∷ []), (at_mut (7 ∷ 7 ∷ []), tt))) (Ok 1, (tt, (tt, (7 ∷ 7 ∷ [], tt)))) → ⊥
 unfolding finish_length
 fill_idle e = let z : ◌≡◌ {A = ℕ} 7 9 = ap (λ (l : List ℕ). get_or l 1 0) (leaving_one e).1 in omega arith
 
-pub fill_early : Allows fn_fill ([], ([], tt)) (second, (at (9 ∷ []), (at_mut (7 ∷ 7 ∷ []), tt))) (length_answer.Done 1, (tt, (tt, (9 ∷ 7 ∷ [], tt)))) → ⊥
+pub fill_early : Allows fn_fill ([], ([], tt)) (second, (at (9 ∷ []), (at_mut (7 ∷ 7 ∷ []), tt))) (Ok 1, (tt, (tt, (9 ∷ 7 ∷ [], tt)))) → ⊥
 unfolding finish_length
 fill_early e = let z : ◌≡◌ {A = ℕ} 9 7 = ap (λ (l : List ℕ). get_or l 0 0) (leaving_one e).1 in omega arith
 
@@ -189,15 +186,15 @@ pub finish_settles : Settles fn_finish
 finish_settles = record {
   total = λ κs a. tt;
   same = λ κs a x y s t. let e = leaving_one (s ∙ sym t) in
-      alike (one_to_one paper_length (back length_answer.Done length_answer.Refused) length_back e.0) (λ i. (tt, (e.1 i, tt)));
+      alike (paper_one e.0) (λ i. (tt, (e.1 i, tt)));
 }
 
 -- start plus size wrapped
-pub finish_wrapped : Allows fn_finish ([], tt) (huge, (at_mut (1 ∷ 2 ∷ 3 ∷ 4 ∷ 5 ∷ 6 ∷ []), tt)) (length_answer.Done 6, (tt, (1 ∷ 2 ∷ 3 ∷ 4 ∷ 5 ∷ 6 ∷ [], tt))) → ⊥
+pub finish_wrapped : Allows fn_finish ([], tt) (huge, (at_mut (1 ∷ 2 ∷ 3 ∷ 4 ∷ 5 ∷ 6 ∷ []), tt)) (Ok 6, (tt, (1 ∷ 2 ∷ 3 ∷ 4 ∷ 5 ∷ 6 ∷ [], tt))) → ⊥
 unfolding finish_length
 finish_wrapped e = let z : ◌≡◌ {A = ℕ} 0 1 = cc in omega arith
 
 -- leaves the FECF out
-pub finish_unsealed : Allows fn_finish ([], tt) (sealing, (at_mut (0x31 ∷ 0 ∷ 0 ∷ []), tt)) (length_answer.Done 3, (tt, (0x31 ∷ 0 ∷ 0 ∷ [], tt))) → ⊥
+pub finish_unsealed : Allows fn_finish ([], tt) (sealing, (at_mut (0x31 ∷ 0 ∷ 0 ∷ []), tt)) (Ok 3, (tt, (0x31 ∷ 0 ∷ 0 ∷ [], tt))) → ⊥
 unfolding finish_length checksum_of feed bits lows bit step
 finish_unsealed e = let z : ◌≡◌ {A = ℕ} 0 0xC7 = cc in omega arith

@@ -10,7 +10,6 @@ use native.Mathlib.Omega.{arith}
 use lib.ListN.{length}
 use Rattle.uslp_octets.specs.Octets.{AreOctets}
 use Rattle.uslp_kinds.specs.Outcome.{Outcome, done, refused, leaving}
-use Rattle.uslp_kinds.specs.Answers.{paper_length}
 use Rattle.uslp_kinds.proofs.Back.{leaving_one}
 use Rattle.uslp_kinds.proofs.Outcomes.{not_done}
 use Rattle.uslp_kinds.specs.declared.ManagedParameters.{ManagedParameters}
@@ -18,12 +17,12 @@ use Rattle.uslp_primary_header.specs.Header.{header_checking}
 use Rattle.uslp_data_field_header.specs.Field.{field_checking}
 use Rattle.uslp_writer.proofs.Lengths.{length_long}
 use Rattle.uslp_writer.proofs.Paths.{writing_refused}
-use Rattle.uslp_reader.specs.Reader.{paper_frame, frame_reading}
+use Rattle.uslp_reader.specs.Reader.{frame_reading}
 use Rattle.uslp_reader.specs.declared.TransferFrame.{TransferFrame}
 use Rattle.uslp_record.specs.Record.{keeping}
 use Rattle.uslp_record.specs.declared.Channel.{Channel}
 use Rattle.uslp_record.specs.declared.ChannelRecord.{ChannelRecord}
-use Rattle.uslp_hearing.specs.Hearing.{channel_of, paper_hear}
+use Rattle.uslp_hearing.specs.Hearing.{channel_of}
 use Rattle.uslp_roundtrip.specs.Samples.{plain}
 use Rattle.uslp_roundtrip.specs.Laid.{WrongFecf}
 use Rattle.uslp_roundtrip.proofs.Unequal.{refused_exactly}
@@ -53,17 +52,18 @@ use Rattle.uslp_demands.proofs.OfReader.{fn_from_bytes}
 use Rattle.uslp_demands.proofs.OfIntake.{fn_take_block}
 use Rattle.uslp_demands.proofs.OfHearing.{fn_hear, fn_hear_frame}
 use Rattle.uslp_demands.proofs.OfMany.{fn_hear_many}
+use Rattle.uslp_kinds.specs.Answers.{paper}
 
 -- what a program does, as the demands see it
 abbrev pub reader_of : Program fn_from_bytes → frames.Reader
-reader_of f s managed = paper_frame (f ([], tt) (at s, (managed, tt))).0
+reader_of f s managed = paper (f ([], tt) (at s, (managed, tt))).0
 
 abbrev pub writer_of : Program fn_write_to_slice → frames.Writer
 writer_of f c d s =
-    leaving (paper_length (f ([], ([], tt)) (c, (at d, (at_mut s, tt)))).0) (f ([], ([], tt)) (c, (at d, (at_mut s, tt)))).1.1.1.0
+    leaving (paper (f ([], ([], tt)) (c, (at d, (at_mut s, tt)))).0) (f ([], ([], tt)) (c, (at d, (at_mut s, tt)))).1.1.1.0
 
 abbrev pub hearer_of : Program fn_hear → histories.Hearer
-hearer_of f r s managed = keeping (paper_hear (f ([], tt) (r, (at s, (managed, tt)))).0.answer) (f ([], tt) (r, (at s, (managed, tt)))).0.next
+hearer_of f r s managed = keeping (paper (f ([], tt) (r, (at s, (managed, tt)))).0.answer) (f ([], tt) (r, (at s, (managed, tt)))).0.next
 
 pub reader_demand : (f : Program fn_from_bytes) → Keeps fn_from_bytes f → frames.Demand2Reader (reader_of f)
 reader_demand f k = subst frames.Demand2Reader (λ i s managed. sym (k ([], tt) (at s, (managed, tt))) i) reads
@@ -138,7 +138,7 @@ in_blocks_demand f k g l = in_blocks channel_of (hearer_of f) (hearer_demand f k
 -- hearing a frame as it was read is hearing its octets
 pub frame_hearing_lem : (f : Program fn_hear) → Keeps fn_hear f → (g : Program fn_hear_frame) → Keeps fn_hear_frame g
     → (r : ChannelRecord) (s : List ℕ) (managed : ManagedParameters) (x : TransferFrame) → frame_reading s managed ≡ done x
-    → keeping (paper_hear (g tt (r, (x, tt))).0.answer) (g tt (r, (x, tt))).0.next ≡ hearer_of f r s managed
+    → keeping (paper (g tt (r, (x, tt))).0.answer) (g tt (r, (x, tt))).0.next ≡ hearer_of f r s managed
 frame_hearing_lem f k g l r s managed x e = l tt (r, (x, tt)) ∙ frame_heard r s managed e ∙ sym (k ([], tt) (r, (at s, (managed, tt))))
 
 -- a too-long total reported by a wrapped field: whatever the data and the buffer, 65,529 octets of data get TOO_LONG
@@ -148,7 +148,7 @@ unfolding header_checking field_checking
 plain_passes = (refl, refl)
 
 pub no_wrapper : (f : Program fn_write_to_slice) → Keeps fn_write_to_slice f → (d s : List ℕ) → length d ≡ 65529
-    → (n : ℕ) → paper_length (f ([], ([], tt)) (plain, (at d, (at_mut s, tt)))).0 ≡ done n → ⊥
+    → (n : ℕ) → paper (f ([], ([], tt)) (plain, (at d, (at_mut s, tt)))).0 ≡ done n → ⊥
 no_wrapper f k d s long n e =
     let refused = writing_refused plain d s (length_long plain (length d) plain_passes.0 plain_passes.1 refl (omega arith)) in
     not_done (sym (leaving_one (k ([], ([], tt)) (plain, (at d, (at_mut s, tt))) ∙ refused)).0 ∙ e)

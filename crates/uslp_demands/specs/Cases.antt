@@ -1,12 +1,10 @@
 -- The cases of docs/RULES.md, section 10, that are proved: one table of questions and answers, under one claim.
-use Rattle.std.specs.Prelude.{◌≡◌, false, List, [], ◌∷◌, map, ℕ, ◌-◌, ◌^◌}
+use Rattle.std.specs.Prelude.{◌≡◌, false, List, [], ◌∷◌, map, ℕ, ◌-◌, ◌^◌, Some, None}
 use Rattle.uslp_kinds.specs.Managed.{fecf, no_fecf}
 use Rattle.uslp_kinds.specs.Outcome.{Outcome, done, refused, and_then, Written, leaving}
 use Rattle.uslp_kinds.specs.declared.ManagedParameters.{ManagedParameters}
 use Rattle.uslp_kinds.specs.declared.ConstructionRule.TheVariants.{PacketSpanningMultipleFrames}
 use Rattle.uslp_kinds.specs.declared.UslpProtocolId.TheVariants.{SpacePacketsOrEncapsulation}
-use Rattle.uslp_kinds.specs.declared.FhpOrLvo.TheVariants as pointer
-use Rattle.uslp_kinds.specs.declared.OperationalControlField.TheVariants.{Absent, Present}
 use Rattle.uslp_primary_header.specs.Header.{with_count, count_setting}
 use Rattle.uslp_primary_header.specs.declared.PrimaryHeader.{PrimaryHeader}
 use Rattle.uslp_writer.specs.Frame.{frame_writing}
@@ -67,9 +65,9 @@ pointed =
             construction_rule = PacketSpanningMultipleFrames;
             uslp_protocol_id = SpacePacketsOrEncapsulation;
             fhp_or_lvo =
-                pointer.Present 0x0AF0;
+                Some 0x0AF0;
           };
-      operational_control_field = Absent;
+      operational_control_field = None;
       data_start = 11;
       data_len = 0;
     }
@@ -79,13 +77,13 @@ emptied =
     record {
       primary_header = header_f false 8;
       data_field_header = whole;
-      operational_control_field = Absent;
+      operational_control_field = None;
       data_start = 9;
       data_len = 0;
     }
 
 abbrev pub with_ocf : TransferFrameCreator
-with_ocf = record { primary_header = some; data_field_header = whole; operational_control_field = Present 0x01020304; has_fecf = false }
+with_ocf = record { primary_header = some; data_field_header = whole; operational_control_field = Some 0x01020304; has_fecf = false }
 
 abbrev pub cases : List (Question × Answer)
 cases =

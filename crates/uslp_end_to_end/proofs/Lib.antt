@@ -1,4 +1,3 @@
-pub mod Tallies
 pub mod Walk
 pub mod Singly
 pub mod Stops

@@ -1,11 +1,11 @@
 -- The loop over the frames: what holds at a place, and how a frame, a refusal and the end carry it on.
-use mathlib.Core.Path.{◌≡◌, refl, ap, sym, ◌∙◌, subst}
+use mathlib.Core.Path.{◌≡◌, refl, ap, sym, ◌∙◌}
 use Prim.Native.Nat.{ℕ, ◌+◌, ◌-◌, ◌^◌, ◌<◌, ◌≤◌}
 use mathlib.Core.Bool.{Bool, true, false, cond}
 use mathlib.Core.List.{List, [], ◌∷◌}
 use native.Mathlib.Omega.{arith}
 use lib.Dec.{eqb}
-use lib.ListN.{length, take, drop, get_or, set, length-set, length-drop, drop_of_length-le}
+use lib.ListN.{length, take, drop, set, length-set, length-drop, drop_of_length-le}
 use lib.Seq.{drop-drop}
 use Rattle.uslp_kinds.specs.Outcome.{Outcome, done, refused, and_then}
 use Rattle.uslp_kinds.specs.declared.ManagedParameters.{ManagedParameters}
@@ -16,17 +16,20 @@ use Rattle.uslp_reader.specs.declared.TransferFrame.{TransferFrame}
 use Rattle.uslp_reader.proofs.Done.{read_done}
 use Rattle.uslp_reader.proofs.EndToEnd.{frame_eight, onto, nothing, cut_refused, cut_more, cut_end, stopping_refused}
 use Rattle.uslp_octets.specs.Octets.{AreOctets}
-use Rattle.uslp_record.specs.Slots.{find, slot_of, Change}
-use Rattle.uslp_record.specs.Record.{applied}
-use Rattle.uslp_record.specs.Judging.{judging, slot_judging}
+use native.Mathlib.Decide.{dec_lt}
+use Rattle.uslp_record.specs.Slots.{find, slot_of, state_at}
+use Rattle.uslp_record.specs.Record.{keeping, applied, most}
+use Rattle.uslp_record.specs.Judging.{judging, count_hearing, slot_judging}
 use Rattle.uslp_record.specs.declared.Slot.{Slot}
 use Rattle.uslp_record.specs.declared.SlotState.TheVariants.{Closed}
 use Rattle.uslp_record.specs.declared.ChannelRecord.{ChannelRecord}
 use Rattle.uslp_record.specs.declared.Arrival.{Arrival}
 use Rattle.uslp_record.specs.declared.Arrival.TheVariants as arrival
 use Rattle.uslp_record.proofs.Hears.{judging_none, judging_slot, changing}
-use Rattle.uslp_record.proofs.Sums.{up_to_in, slots_most, slots_set, gap_of, slot_gap}
-use Rattle.uslp_hearing.specs.Hearing.{channel_of, frame_arrival, with_frame, judged_by, frame_hearing}
+use Rattle.uslp_record.proofs.Sums.{up_to_in, slots_most, slots_set, gap_of, slot_gap, slot_gap_fits}
+use Rattle.uslp_record.proofs.Back.{keeping_one}
+use Rattle.uslp_hearing.proofs.Heard.{heard_with}
+use Rattle.uslp_hearing.specs.Hearing.{channel_of, frame_arrival, judged_by, frame_hearing}
 use Rattle.uslp_hearing.specs.declared.FrameArrival.{FrameArrival}
 use Rattle.uslp_hearing.specs.declared.FrameArrival.TheVariants.{New, Repeat, Late}
 use Rattle.uslp_hearing.proofs.Ways.{channel, width, count, read_narrow, read_fits}
@@ -47,10 +50,68 @@ total_few (done Repeat) = omega arith
 total_few (done Late) = omega arith
 total_few (refused k vs) = omega (arith, one_most (eqb k 13), one_most (eqb k 14), one_most (eqb k 17))
 
-gap_is : (x : TransferFrame) (a : Arrival) → (tally_of (done (frame_arrival x a))).missing ≡ gap_of a
-gap_is x (arrival.New gap) = refl
-gap_is x arrival.Repeat = refl
-gap_is x arrival.Late = refl
+-- the gap that an answer to a count brings
+abbrev pub gap_in : Outcome Arrival → ℕ
+gap_in (done a) = gap_of a
+gap_in (refused k vs) = 0
+
+-- an answer to a count, with the frame that it is of
+abbrev of_arrival : TransferFrame → Outcome Arrival → Outcome FrameArrival
+of_arrival x o = and_then o (λ (a : Arrival). done (frame_arrival x a))
+
+gap_is : (x : TransferFrame) (o : Outcome Arrival) → (tally_of (of_arrival x o)).missing ≡ gap_in o
+gap_is x (done (arrival.New gap)) = refl
+gap_is x (done arrival.Repeat) = refl
+gap_is x (done arrival.Late) = refl
+gap_is x (refused k vs) = refl
+
+-- a count that is answered by o and takes the record r to q: its slots take the gap in
+pub record Counted (r q : ChannelRecord) (o : Outcome Arrival) : Type 0 where
+  pub eight : length q.slots ≡ 8
+  pub fits : gap_in o ≤ most
+  pub more : up_to_in r.slots + gap_in o ≤ up_to_in q.slots
+
+module _ (x : TransferFrame) (r : ChannelRecord) (long : length r.slots ≡ 8) {o : Outcome Arrival} {q : ChannelRecord} where
+  counted_refused : {k : ℕ} {vs : List ℕ} → keeping o q ≡ keeping (refused k vs) r → Counted r q o
+  counted_refused e =
+      let d = keeping_one e in
+      let none : gap_in o ≡ 0 = ap gap_in d.0 in
+      let same : up_to_in q.slots ≡ up_to_in r.slots = ap (λ (v : ChannelRecord). up_to_in v.slots) d.1 in
+      record { eight = ap (λ (v : ChannelRecord). length v.slots) d.1 ∙ long; fits = omega arith; more = omega arith }
+
+  counted_slot : (i : ℕ) → i < 8 → (v : Outcome (Arrival × Slot))
+      → slot_judging (slot_of (state_at r i)) (channel x) (width x) (count x) ≡ v
+      → keeping o q ≡ applied r (changing i v) → Counted r q o
+  counted_slot i there (refused k vs) is e = counted_refused e
+  counted_slot i there (done y) is e =
+      let d = keeping_one e in
+      let one : gap_in o ≡ gap_of y.0 = ap gap_in d.0 in
+      let set_there : up_to_in q.slots ≡ up_to_in (set r.slots i y.1) = ap (λ (v : ChannelRecord). up_to_in v.slots) d.1 in
+      let gap = slot_gap (slot_of (state_at r i)) (channel x) (width x) (count x) is in
+      let fit = slot_gap_fits (slot_of (state_at r i)) (channel x) (width x) (count x) is in
+      let more = slots_set r.slots i y.1 (slot_of Closed) (omega (arith, long)) in
+      record {
+        eight = ap (λ (v : ChannelRecord). length v.slots) d.1 ∙ length-set r.slots i y.1 ∙ long;
+        fits = omega arith;
+        more = omega arith;
+      }
+
+  pub counted : (managed : ManagedParameters) (s : List ℕ) → AreOctets s → frame_reading s managed ≡ done x
+      → keeping o q ≡ count_hearing r (channel x) (width x) (count x) → Counted r q o
+  counted managed s oct read e = go (dec_lt i 8)
+    where
+      i : ℕ
+      i = find (channel x) r.slots
+
+      go : Dec (i < 8) → Counted r q o
+      go (yes there) =
+          counted_slot i there (slot_judging (slot_of (state_at r i)) (channel x) (width x) (count x)) refl
+          (e ∙ ap (applied r) (judging_slot r (channel x) (width x) (count x) i refl there))
+      go (no out) =
+          counted_refused
+          (e ∙ ap (applied r)
+          (judging_none r (channel x) (width x) (count x) i refl (read_narrow s managed x read)
+          (read_fits s managed x oct read) (omega arith)))
 
 -- a hearing of the octets s takes the tally t and the record r to u and q
 pub record Stepped (managed : ManagedParameters) (s : List ℕ) (t : Tally) (r : ChannelRecord) (u : Tally) (q : ChannelRecord) : Type 0 where
@@ -59,57 +120,22 @@ pub record Stepped (managed : ManagedParameters) (s : List ℕ) (t : Tally) (r :
   pub few : total u ≤ total t + 3
   pub sum : t.missing ≤ up_to_in r.slots → u.missing ≤ up_to_in q.slots
 
-module _ (managed : ManagedParameters) (s : List ℕ) (x : TransferFrame) (oct : AreOctets s) (read : frame_reading s managed ≡ done x) (t u : Tally) (r : ChannelRecord)
-    (long : length r.slots ≡ 8) (i : ℕ) (found : i ≡ find (channel x) r.slots) where
-  -- by what judging its count says
-  heard_by_lem : {o : Outcome (Arrival × Change)} → judging r (channel x) (width x) (count x) ≡ o
-      → added_to t (frame_hearing r s managed) ≡ added_to t (applied r (with_frame x o))
-  heard_by_lem e =
+-- by what hearing its count answered, and what that answer adds to the tally
+pub stepped : (managed : ManagedParameters) (s : List ℕ) (x : TransferFrame) → frame_reading s managed ≡ done x
+    → (t : Tally) {u : Tally} (r : ChannelRecord) {q : ChannelRecord} {o : Outcome Arrival}
+    → keeping o q ≡ count_hearing r (channel x) (width x) (count x) → Counted r q o → u ≡ plus t (tally_of (of_arrival x o))
+    → Stepped managed s t r u q
+stepped managed s x read t {u} r {q} {o} e c is = record {
+  is =
       ap (λ (v : Outcome TransferFrame). added_to t (applied r (and_then v (judged_by channel_of r)))) read
-      ∙ ap (λ (v : Outcome (Arrival × Change)). added_to t (applied r (with_frame x v))) e
-
-  -- no slot holds its channel
-  pub stepped_none : 8 ≤ i → u ≡ plus t (tally_of (refused 13 [])) → Stepped managed s t r u r
-  stepped_none out e = record {
-    is =
-        heard_by_lem (judging_none r (channel x) (width x) (count x) i found (read_narrow s managed x read) (read_fits s managed x oct read) out)
-        ∙ ap (λ (v : Tally). (v, r)) (sym e);
-    eight = long;
-    few = omega (arith, ap total e);
-    sum = λ h. omega (arith, h, ap (λ (v : Tally). v.missing) e);
-  }
-
-  -- the slot that holds it is judged
-  module _ (there : i < 8) where
-    by_slot : {o : Outcome (Arrival × Slot)} → slot_judging (get_or r.slots i (slot_of Closed)) (channel x) (width x) (count x) ≡ o
-        → added_to t (frame_hearing r s managed) ≡ added_to t (applied r (with_frame x (changing i o)))
-    by_slot e =
-        heard_by_lem (judging_slot r (channel x) (width x) (count x) i found there ∙ ap (changing i) e)
-
-    -- and the slot y takes its place
-    pub stepped_done : (a : Arrival) (y : Slot) → slot_judging (get_or r.slots i (slot_of Closed)) (channel x) (width x) (count x) ≡ done (a, y)
-        → u ≡ plus t (tally_of (done (frame_arrival x a))) → Stepped managed s t r u (record { slots = set r.slots i y })
-    stepped_done a y e same =
-        let gap = slot_gap (get_or r.slots i (slot_of Closed)) (channel x) (width x) (count x) e in
-        let more = slots_set r.slots i y (slot_of Closed) (omega (arith, long)) in
-        record {
-          is = by_slot e ∙ ap (λ (v : Tally). (v, record { slots = set r.slots i y })) (sym same);
-          eight = length-set r.slots i y ∙ long;
-          few = omega (arith, ap total same, total_few (done (frame_arrival x a)));
-          sum = λ less.
-              let v : u.missing ≡ t.missing + gap_of a = ap (λ (v : Tally). v.missing) same ∙ ap (λ (n : ℕ). t.missing + n) (gap_is x a) in
-              omega (arith, less, v, gap, more);
-        }
-
-    -- or it is passed over
-    pub stepped_refused : {k : ℕ} {vs : List ℕ} → slot_judging (get_or r.slots i (slot_of Closed)) (channel x) (width x) (count x) ≡ refused k vs
-        → u ≡ plus t (tally_of (refused k vs)) → Stepped managed s t r u r
-    stepped_refused {k} {vs} e same = record {
-      is = by_slot e ∙ ap (λ (v : Tally). (v, r)) (sym same);
-      eight = long;
-      few = omega (arith, ap total same, total_few (refused k vs));
-      sum = λ less. omega (arith, less, ap (λ (v : Tally). v.missing) same);
-    }
+      ∙ ap (added_to t) (sym (heard_with x r (judging r (channel x) (width x) (count x)) e))
+      ∙ ap (λ (v : Tally). (v, q)) (sym is);
+  eight = c.eight;
+  few = omega (arith, ap total is, total_few (of_arrival x o));
+  sum = λ less.
+      let v : u.missing ≡ t.missing + gap_in o = ap (λ (v : Tally). v.missing) is ∙ ap (λ (n : ℕ). t.missing + n) (gap_is x o) in
+      omega (arith, less, v, c.more);
+}
 
 hearings_next : (managed : ManagedParameters) (f : TransferFrame × List ℕ) (fs : List (TransferFrame × List ℕ)) (t : Tally) (r : ChannelRecord)
     → hearings managed (f ∷ fs) t r ≡ hearings managed fs (added_to t (frame_hearing r f.1 managed)).0 (added_to t (frame_hearing r f.1 managed)).1
@@ -178,14 +204,6 @@ pub record Heard (managed : ManagedParameters) (s : List ℕ) (r₀ r : ChannelR
   pub eight : length r.slots ≡ 8
   pub few : total t ≤ place
   pub sum : t.missing ≤ up_to_in r.slots
-
-pub heard_nothing : (managed : ManagedParameters) (s : List ℕ) (r : ChannelRecord) {t : Tally} → length r.slots ≡ 8 → t ≡ no_frames → Heard managed s r r t 0
-heard_nothing managed s r {t} long e = record {
-  goes = subst (λ (v : Tally). Goes managed s r r v 0) (sym e) (goes_nothing managed s r);
-  eight = long;
-  few = omega (arith, ap total e);
-  sum = omega (arith, ap (λ (v : Tally). v.missing) e);
-}
 
 module _ {managed : ManagedParameters} {s : List ℕ} {r₀ r : ChannelRecord} {t : Tally} {place : ℕ} (h : Heard managed s r₀ r t place) where
   pub heard_small : place + 1 < 2 ^ 64 → Small t

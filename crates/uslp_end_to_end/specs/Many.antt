@@ -1,7 +1,6 @@
 -- Hearing frames end to end (docs/RULES.md, section 6.7): one at a time, over what their lengths cut off.
 use Rattle.std.specs.Prelude.{ℕ, ◌+◌, ◌-◌, ◌*◌, ◌^◌, ◌<◌, ◌≤◌, cond, List, [], ◌∷◌, eqb, length}
 use Rattle.uslp_kinds.specs.Outcome.{Outcome, done, refused}
-use Rattle.uslp_kinds.specs.Answers.{paper_done}
 use Rattle.uslp_kinds.specs.declared.ManagedParameters.{ManagedParameters}
 use Rattle.uslp_reader.specs.EndToEnd.{cut, stopping}
 use Rattle.uslp_reader.specs.declared.TransferFrame.{TransferFrame}
@@ -12,6 +11,7 @@ use Rattle.uslp_hearing.specs.declared.FrameArrival.{FrameArrival}
 use Rattle.uslp_hearing.specs.declared.FrameArrival.TheVariants.{New, Repeat, Late}
 use Rattle.uslp_end_to_end.specs.declared.Tally.{Tally}
 use Rattle.uslp_end_to_end.specs.declared.ManyHearing.{ManyHearing}
+use Rattle.uslp_kinds.specs.Answers.{paper}
 
 -- NEW, the sum of their gaps, REPEAT, LATE, 13, 14, 17
 abbrev pub tally : ℕ → ℕ → ℕ → ℕ → ℕ → ℕ → ℕ → Tally
@@ -52,7 +52,7 @@ pub record KeptMany : Type 0 where
   pub next : ChannelRecord
 
 abbrev pub paper_many : ManyHearing → KeptMany
-paper_many r = record { place = r.place; counted = r.tally; stop = paper_done r.stop; next = r.next }
+paper_many r = record { place = r.place; counted = r.tally; stop = paper r.stop; next = r.next }
 
 unfoldable pub many_hearing : ChannelRecord → List ℕ → ManagedParameters → KeptMany
 many_hearing r s managed =

@@ -1,22 +1,24 @@
 // Hearing frames that stand end to end, in one call.
 #![tactic(auto)]
 
-ghost use Rattle.std.specs.Prelude.{◌≡◌, List, ℕ, ◌<◌, ◌^◌};
-ghost use Rattle.uslp_kinds.specs.Outcome.{done, refused};
+ghost use Rattle.std.specs.Prelude.{◌≡◌, ℕ, ◌<◌, ◌≤◌, ◌^◌, Ok};
+ghost use Rattle.uslp_kinds.specs.Outcome.{done, and_then};
+ghost use Rattle.uslp_kinds.specs.Answers.{paper};
 ghost use Rattle.uslp_reader.specs.declared.TransferFrame.{TransferFrame};
-ghost use Rattle.uslp_record.specs.Judging.{paper_slot, slot_judging};
+ghost use Rattle.uslp_record.specs.Record.{keeping};
+ghost use Rattle.uslp_record.specs.Judging.{count_hearing};
 ghost use Rattle.uslp_record.specs.declared.Arrival.{Arrival};
 ghost use Rattle.uslp_hearing.specs.Hearing.{channel_of, frame_arrival};
 ghost use Rattle.uslp_end_to_end.specs.Many.{paper_many, no_frames, plus, tally_of, many_hearing, Small};
 
 use uslp_hearing::channel_of;
-use uslp_kinds::{DoneAnswer, ManagedParameters, Refusal};
+use uslp_kinds::{ManagedParameters, Refusal};
 use uslp_primary_header::PrimaryHeader;
-use uslp_reader::{FrameAnswer, TransferFrame};
-use uslp_record::{Arrival, ChannelRecord, SLOTS, Slot, SlotAnswer, search};
+use uslp_reader::TransferFrame;
+use uslp_record::{Arrival, ChannelRecord};
 
 // How many frames were NEW, the sum of their gaps, how many were REPEAT and LATE, and how many got 13, 14 and 17.
-#[derive(Clone, Copy)]
+#[derive(Clone, Copy, Debug, Default, PartialEq, Eq)]
 pub struct Tally {
     pub new: u64,
     pub missing: u64,
@@ -27,13 +29,13 @@ pub struct Tally {
     pub total_full: u64,
 }
 
-// What the call comes to: the place reached, the tally of the frames before it, and the record after them. `stop` is DONE
+// What the call comes to: the place reached, the tally of the frames before it, and the record after them. `stop` is Ok
 // where the octets are used up, else the reader's refusal of what is left.
-#[derive(Clone, Copy)]
+#[derive(Clone, Copy, Debug)]
 pub struct ManyHearing {
     pub place: usize,
     pub tally: Tally,
-    pub stop: DoneAnswer,
+    pub stop: Result<(), Refusal>,
     pub next: ChannelRecord,
 }
 
@@ -42,33 +44,20 @@ pub fn hear_many(channels: ChannelRecord, buf: &[u8], managed: ManagedParameters
     ensures { paper_many result ≡ many_hearing channels buf.now managed }
 {
     let mut next = channels;
-    let mut tally = no_frames();
+    let mut tally = Tally::default();
     let mut place: usize = 0;
+    // the place moves by the length of the frame that was found there
     while place < buf.len() {
         match TransferFrame::from_bytes(&buf[place..], managed) {
-            FrameAnswer::Done(frame) => {
-                let header = frame.primary_header;
-                let at = search(next, channel_of(header));
-                if at < SLOTS {
-                    // a record handed over and back would be copied whole for each frame
-                    match judge_in(next.slots[at], header) {
-                        SlotAnswer::Done { arrival, slot } => {
-                            next.slots[at] = slot;
-                            tally = arrived(tally, arrival);
-                        }
-                        SlotAnswer::Refused(refusal) => tally = passed(tally, refusal.number()),
-                    }
-                } else {
-                    let refusal = Refusal::NotOpen;
-                    tally = passed(tally, refusal.number());
-                }
+            Ok(frame) => {
+                tally.count(hear_in(&mut next, frame.primary_header));
                 place += frame.len_frame();
             }
-            FrameAnswer::Refused(refusal) => {
+            Err(refusal) => {
                 return ManyHearing {
                     place,
                     tally,
-                    stop: DoneAnswer::Refused(refusal),
+                    stop: Err(refusal),
                     next,
                 };
             }
@@ -77,75 +66,49 @@ pub fn hear_many(channels: ChannelRecord, buf: &[u8], managed: ManagedParameters
     ManyHearing {
         place,
         tally,
-        stop: DoneAnswer::Done,
+        stop: Ok(()),
         next,
     }
 }
 
-fn no_frames() -> Tally
-    ensures { result ≡ no_frames }
-{
-    Tally {
-        new: 0,
-        missing: 0,
-        repeats: 0,
-        late: 0,
-        not_open: 0,
-        other_width: 0,
-        total_full: 0,
-    }
-}
-
-// A frame of the channel that the slot holds.
-fn judge_in(slot: Slot, header: PrimaryHeader) -> SlotAnswer
-    ensures { paper_slot result ≡ slot_judging slot (channel_of header) header.vc_frame_count_len header.vc_frame_count }
+// Hears a frame that was read where the record stands: one handed over and back would be copied whole for each frame.
+#[tactic(auto, unfolding(uslp_record::specs::Judging::judging, uslp_record::specs::Judging::slot_judging))]
+fn hear_in(channels: &mut ChannelRecord, header: PrimaryHeader) -> Result<Arrival, Refusal>
+    requires { (header.vc_frame_count_len ≤ 7) × (header.vc_frame_count < 256 ^ header.vc_frame_count_len) }
+    ensures { keeping (paper result) channels.new
+        ≡ count_hearing channels.old (channel_of header) header.vc_frame_count_len header.vc_frame_count }
 {
     let channel = channel_of(header);
-    slot.judge_count(channel, header.vc_frame_count_len, header.vc_frame_count)
+    let Some(at) = channels.search(channel) else {
+        return Err(Refusal::NotOpen);
+    };
+    let (arrival, slot) = channels.slots[at].judge_count(
+        channel,
+        header.vc_frame_count_len,
+        header.vc_frame_count,
+    )?;
+    channels.slots[at] = slot;
+    Ok(arrival)
 }
 
-// A frame that is counted for its channel.
-fn arrived(tally: Tally, arrival: Arrival) -> Tally
-    requires { Small tally × ((gap : ℕ) → arrival ≡ Arrival.New gap → gap < 2 ^ 60) }
-    ensures { (x : TransferFrame) → result ≡ plus tally (tally_of (done (frame_arrival x arrival))) }
-{
-    let mut next = tally;
-    match arrival {
-        Arrival::New(gap) => {
-            next.new += 1;
-            next.missing += gap;
-            next
+impl Tally {
+    // Counts what a frame was to its channel, or why it was passed over.
+    fn count(&mut self, answer: Result<Arrival, Refusal>)
+        requires { Small self.old × ((gap : ℕ) → answer ≡ Ok (Arrival.New gap) → gap < 2 ^ 60) }
+        ensures { (x : TransferFrame)
+            → self.exit.now ≡ plus self.entry.now (tally_of (and_then (paper answer) (λ a. done (frame_arrival x a)))) }
+    {
+        match answer {
+            Ok(Arrival::New(gap)) => {
+                self.new += 1;
+                self.missing += gap;
+            }
+            Ok(Arrival::Repeat) => self.repeats += 1,
+            Ok(Arrival::Late) => self.late += 1,
+            Err(Refusal::NotOpen) => self.not_open += 1,
+            Err(Refusal::OtherWidth { .. }) => self.other_width += 1,
+            Err(Refusal::TotalFull) => self.total_full += 1,
+            Err(_) => {}
         }
-        Arrival::Repeat => {
-            next.repeats += 1;
-            next
-        }
-        Arrival::Late => {
-            next.late += 1;
-            next
-        }
-    }
-}
-
-// A frame that is refused by this number, and passed over.
-fn passed(tally: Tally, number: u8) -> Tally
-    requires { Small tally }
-    ensures { (vs : List ℕ) → result ≡ plus tally (tally_of (refused number vs)) }
-{
-    let mut next = tally;
-    match number {
-        13 => {
-            next.not_open += 1;
-            next
-        }
-        14 => {
-            next.other_width += 1;
-            next
-        }
-        17 => {
-            next.total_full += 1;
-            next
-        }
-        _ => next,
     }
 }

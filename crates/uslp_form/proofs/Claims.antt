@@ -13,9 +13,6 @@ use borrow.Author.Tests.{le-ltb, lt-ltb}
 use Rattle.uslp_octets.specs.Octets.{value_of, pack}
 use Rattle.uslp_kinds.specs.Outcome.{done, refused, leaving, first_of}
 use Rattle.uslp_kinds.specs.declared.BypassSequenceControlFlag.TheVariants.{SequenceControlledQoS}
-use Rattle.uslp_kinds.specs.Answers.{paper_length}
-use Rattle.uslp_kinds.specs.declared.LengthAnswer.{LengthAnswer}
-use Rattle.uslp_kinds.specs.declared.LengthAnswer.TheVariants.{Done}
 use Rattle.uslp_kinds.proofs.Back.{leaving_one}
 use Rattle.uslp_kinds.proofs.Cases.{bypass_lt}
 use Rattle.uslp_kinds.proofs.Outcomes.{not_done, done_one, refused_keeps}
@@ -39,6 +36,9 @@ use Rattle.uslp_form.proofs.Sorted.{not_both, sorted_length}
 use Rattle.uslp_form.proofs.Trips.{unheard_of, heard_of, entries_of, good_saved, saved_again, said_good}
 use Rattle.uslp_form.proofs.Asked.{asked_again, total_again}
 use Rattle.uslp_form.proofs.Rows.{opened_size, heard_size, good_unheard, good_heard, good_one, section_opened, section_heard, restores_done}
+use Rattle.std.specs.Prelude.{Result, Ok}
+use Rattle.uslp_kinds.specs.Answers.{paper}
+use Rattle.uslp_kinds.specs.declared.Refusal.{Refusal}
 
 -- saving: 19 where the form does not say every open channel, whatever room there is; else with room it is done, the octets behind the form
 -- stay; else 2, and nothing is written
@@ -78,9 +78,9 @@ module _ (f : Form) (r : ChannelRecord) (b : List ℕ) where
       let d = saves e in omega (arith, d.count, ap length d.left, length-append (form_of f r) (drop (length (form_of f r)) b))
 
 -- the same of the answer of a call
-pub saved_within : (f : Form) (r : ChannelRecord) (b t : List ℕ) (a : LengthAnswer) (n : ℕ) → a ≡ Done n
-    → leaving (paper_length a) t ≡ saving f r b → n ≤ length t
-saved_within f r b t a n e h = saving_fits f r b (ap (λ (x : LengthAnswer). leaving (paper_length x) t) (sym e) ∙ h)
+pub saved_within : (f : Form) (r : ChannelRecord) (b t : List ℕ) (a : Result ℕ Refusal) (n : ℕ) → a ≡ Ok n
+    → leaving (paper a) t ≡ saving f r b → n ≤ length t
+saved_within f r b t a n e h = saving_fits f r b (ap (λ (x : Result ℕ Refusal). leaving (paper x) t) (sym e) ∙ h)
 
 -- refused, it leaves what it found
 pub saving_kept : (f : Form) (r : ChannelRecord) (b : List ℕ) {n : ℕ} {vs t : List ℕ} → saving f r b ≡ leaving (refused n vs) t → t ≡ b

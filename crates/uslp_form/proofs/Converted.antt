@@ -9,9 +9,6 @@ use native.Mathlib.Decide.{dec_lt}
 use lib.ListN.{length, take, drop, length-append}
 use lib.Seq.{take-append_seam}
 use Rattle.uslp_kinds.specs.Outcome.{Outcome, done, refused, Written, leaving}
-use Rattle.uslp_kinds.specs.Answers.{paper_length}
-use Rattle.uslp_kinds.specs.declared.LengthAnswer.{LengthAnswer}
-use Rattle.uslp_kinds.specs.declared.LengthAnswer.TheVariants.{Done as Filled}
 use Rattle.uslp_kinds.proofs.Back.{leaving_one}
 use Rattle.uslp_kinds.proofs.Outcomes.{not_done}
 use Rattle.uslp_record.proofs.Back.{keeping_one}
@@ -26,6 +23,9 @@ use Rattle.uslp_form.specs.Saved.Converting.{good, bad}
 use Rattle.uslp_form.proofs.Across.{good_across, saved_across, said_restored, entries_said}
 use Rattle.uslp_form.proofs.Rows.{good_one, restores_done}
 use Rattle.uslp_form.proofs.Claims.{saving_lacks, saving_done, saving_short, saves, saving_kept, restoring_good, restoring_bad, refused_bad}
+use Rattle.std.specs.Prelude.{Result, Ok}
+use Rattle.uslp_kinds.specs.Answers.{paper}
+use Rattle.uslp_kinds.specs.declared.Refusal.{Refusal}
 
 -- a refusal is the same of whatever result
 refused_alike : {A B : Type 0} {n m : ℕ} {vs ws : List ℕ} → ◌≡◌ {A = Outcome A} (refused n vs) (refused m ws)
@@ -75,8 +75,8 @@ module _ (f g : Form) where
         let w = form g d.unheard d.heard in
         omega (arith, d.count, ap length d.left, length-append w (drop (length w) b))
 
-    pub converted_within : (t : List ℕ) (a : LengthAnswer) (n : ℕ) → a ≡ Filled n → Converting f g s b (leaving (paper_length a) t) → n ≤ length t
-    converted_within t a n e h = converting_fits (subst (λ (x : LengthAnswer). Converting f g s b (leaving (paper_length x) t)) e h)
+    pub converted_within : (t : List ℕ) (a : Result ℕ Refusal) (n : ℕ) → a ≡ Ok n → Converting f g s b (leaving (paper a) t) → n ≤ length t
+    converted_within t a n e h = converting_fits (subst (λ (x : Result ℕ Refusal). Converting f g s b (leaving (paper x) t)) e h)
 
     -- a converting leaves one thing only
     pub converting_good : (us hs : List SlotState) {o : Written ℕ} → GoodForm f s us hs → Converting f g s b o → o ≡ saving g (restored (us ++ hs)) b

@@ -1,7 +1,6 @@
 -- Hearing a frame (docs/RULES.md, section 6.3): what it answers, what it hands on, and the record that it leaves, in its order.
 use Rattle.std.specs.Prelude.{ℕ, List, []}
 use Rattle.uslp_kinds.specs.Outcome.{Outcome, done, refused, and_then}
-use Rattle.uslp_kinds.specs.Answers.{refusal}
 use Rattle.uslp_kinds.specs.declared.ManagedParameters.{ManagedParameters}
 use Rattle.uslp_primary_header.specs.declared.PrimaryHeader.{PrimaryHeader}
 use Rattle.uslp_reader.specs.Reader.{frame_reading, contents_in, contents_at}
@@ -15,12 +14,6 @@ use Rattle.uslp_record.specs.declared.Arrival.{Arrival}
 use Rattle.uslp_record.specs.declared.Arrival.TheVariants as arrival
 use Rattle.uslp_hearing.specs.declared.FrameArrival.{FrameArrival}
 use Rattle.uslp_hearing.specs.declared.FrameArrival.TheVariants.{New, Repeat, Late}
-use Rattle.uslp_hearing.specs.declared.HearAnswer.{HearAnswer}
-use Rattle.uslp_hearing.specs.declared.HearAnswer.TheVariants as hear_answer
-
-abbrev pub paper_hear : HearAnswer → Outcome FrameArrival
-paper_hear (hear_answer.Done a) = done a
-paper_hear (hear_answer.Refused r) = refusal r
 
 -- how a frame names the channel that it is counted for
 abbrev pub Naming : Type 0

@@ -3,54 +3,42 @@
 
 ghost use Rattle.std.specs.Prelude.{◌≡◌};
 ghost use Rattle.uslp_octets.specs.Octets.{PartOf};
-ghost use Rattle.uslp_kinds.specs.Outcome.{done, and_then};
 ghost use Rattle.uslp_record.specs.Record.{keeping};
-ghost use Rattle.uslp_record.specs.Judging.{paper_arrival};
-ghost use Rattle.uslp_hearing.specs.Hearing.{channel_of, paper_hear, frame_arrival, hearing_of_frame, frame_hearing, handed_on, handed_at};
+ghost use Rattle.uslp_hearing.specs.Hearing.{channel_of, frame_arrival, hearing_of_frame, frame_hearing, handed_on, handed_at};
+ghost use Rattle.uslp_kinds.specs.Answers.{paper};
 
 use uslp_kinds::{ManagedParameters, Refusal};
 use uslp_primary_header::PrimaryHeader;
-use uslp_reader::{FrameAnswer, TransferFrame};
-use uslp_record::{Arrival, ArrivalAnswer, Channel, ChannelRecord};
+use uslp_reader::TransferFrame;
+use uslp_record::{Arrival, Channel, ChannelRecord, Recorded};
 
-// What hearing a frame finds: NEW, with the frame and how many are missing before it, or nothing to hand on.
-#[derive(Clone, Copy)]
+// What hearing a frame finds: NEW, with the frame and how many are missing before it, or nothing to hand on. NEW alone carries the
+// frame, so it is no pair of an arrival and a frame.
+#[derive(Clone, Copy, Debug)]
 pub enum FrameArrival {
     New { gap: u64, frame: TransferFrame },
     Repeat,
     Late,
 }
 
-#[derive(Clone, Copy)]
-pub enum HearAnswer {
-    Done(FrameArrival),
-    Refused(Refusal),
-}
-
-// An answer to a hearing, and the record after it.
-#[derive(Clone, Copy)]
-pub struct Hearing {
-    pub answer: HearAnswer,
-    pub next: ChannelRecord,
-}
-
 // Refuses what reading refuses, then NOT_OPEN, OTHER_WIDTH, TOTAL_FULL.
-pub fn hear(channels: ChannelRecord, buf: &[u8], managed: ManagedParameters) -> Hearing
-    ensures { keeping (paper_hear result.answer) result.next ≡ frame_hearing channels buf.now managed }
+pub fn hear(
+    channels: ChannelRecord,
+    buf: &[u8],
+    managed: ManagedParameters,
+) -> Recorded<FrameArrival>
+    ensures { keeping (paper result.answer) result.next ≡ frame_hearing channels buf.now managed }
 {
     match TransferFrame::from_bytes(buf, managed) {
-        FrameAnswer::Done(frame) => hear_frame(channels, frame),
-        FrameAnswer::Refused(refusal) => Hearing {
-            answer: HearAnswer::Refused(refusal),
-            next: channels,
-        },
+        Ok(frame) => hear_frame(channels, frame),
+        Err(refusal) => Recorded::refused(channels, refusal),
     }
 }
 
 // The same of a frame that was read already, so that it is not read twice. Of a frame that no reading gives it refuses BAD_FIELD
 // for its width and BAD_COUNT for its count; then NOT_OPEN, OTHER_WIDTH, TOTAL_FULL.
-pub fn hear_frame(channels: ChannelRecord, frame: TransferFrame) -> Hearing
-    ensures { keeping (paper_hear result.answer) result.next ≡ hearing_of_frame channels frame }
+pub fn hear_frame(channels: ChannelRecord, frame: TransferFrame) -> Recorded<FrameArrival>
+    ensures { keeping (paper result.answer) result.next ≡ hearing_of_frame channels frame }
 {
     let header = frame.primary_header;
     let heard = channels.hear_count(
@@ -58,25 +46,19 @@ pub fn hear_frame(channels: ChannelRecord, frame: TransferFrame) -> Hearing
         header.vc_frame_count_len,
         header.vc_frame_count,
     );
-    let counted = heard.answer;
-    let next = heard.next;
-    Hearing {
-        answer: with_frame(counted, frame),
-        next,
+    Recorded {
+        answer: heard.answer.map(|arrival| frame_arrival(arrival, frame)),
+        next: heard.next,
     }
 }
 
 // The data that a hearing hands on: a part of the lent octets, nothing unless the frame is NEW.
-pub fn handed_on(answer: HearAnswer, buf: &[u8]) -> &[u8]
-    ensures { PartOf buf.entry (handed_at (paper_hear answer) buf.now) (handed_on (paper_hear answer) buf.now) result }
+pub fn handed_on(answer: Result<FrameArrival, Refusal>, buf: &[u8]) -> &[u8]
+    ensures { PartOf buf.entry (handed_at (paper answer) buf.now) (handed_on (paper answer) buf.now) result }
 {
     match answer {
-        HearAnswer::Done(arrival) => match arrival {
-            FrameArrival::New { gap: _, frame } => frame.data(buf),
-            FrameArrival::Repeat => &buf[0..0],
-            FrameArrival::Late => &buf[0..0],
-        },
-        HearAnswer::Refused(_) => &buf[0..0],
+        Ok(FrameArrival::New { frame, .. }) => frame.data(buf),
+        Ok(FrameArrival::Repeat | FrameArrival::Late) | Err(_) => &buf[0..0],
     }
 }
 
@@ -84,21 +66,10 @@ pub fn handed_on(answer: HearAnswer, buf: &[u8]) -> &[u8]
 pub fn channel_of(header: PrimaryHeader) -> Channel
     ensures { result ≡ channel_of header }
 {
-    let sequence_control_flag = header.sequence_control_flag;
     Channel {
         spacecraft_id: header.spacecraft_id,
         vc_id: header.vc_id,
-        sequence_control_flag,
-    }
-}
-
-// An answer to a count, with the frame that it is of.
-fn with_frame(answer: ArrivalAnswer, frame: TransferFrame) -> HearAnswer
-    ensures { paper_hear result ≡ and_then (paper_arrival answer) (λ a. done (frame_arrival frame a)) }
-{
-    match answer {
-        ArrivalAnswer::Done(arrival) => HearAnswer::Done(frame_arrival(arrival, frame)),
-        ArrivalAnswer::Refused(refusal) => HearAnswer::Refused(refusal),
+        sequence_control_flag: header.sequence_control_flag,
     }
 }
 

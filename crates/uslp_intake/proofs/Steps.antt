@@ -165,10 +165,6 @@ module _ {managed : ManagedParameters} {s : List ℕ} {held : ℕ} {block : List
           least = omega (arith, i.least, step, same);
         }
 
-    pub left_long : {t' : List ℕ} (n : ℕ) → n ≤ lacking o → taken + n ≤ length block → t' ≡ paste t (held + taken) (drop taken block) n → length t' ≡ length s
-    left_long {t'} n h l e =
-        ap length (copied_more n e) ∙ length-paste s held block (taken + n) (omega (arith, taken_fits h)) l
-
   -- the reader refuses, and lacks nothing
   pub taken_stops : {k : ℕ} {vs : List ℕ} → frame_reading (take (held + taken) t) managed ≡ refused k vs → lacking {A = TransferFrame} (refused k vs) ≡ 0
       → leaving (done (stopped taken (held + taken) k vs)) t ≡ intaking managed s held block

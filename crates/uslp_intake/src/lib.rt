@@ -1,17 +1,18 @@
 // The intake: octets come in blocks, cut anywhere, and frames go out as they become whole.
 #![tactic(auto)]
 
-ghost use Rattle.std.specs.Prelude.{◌≡◌, ◌+◌, ◌≤◌, length, drop};
+ghost use Rattle.std.specs.Prelude.{◌≡◌, ◌+◌, ◌≤◌, length};
 ghost use Rattle.std.proofs.Math.Seq.{paste};
 ghost use Rattle.uslp_kinds.specs.Outcome.{leaving};
 ghost use Rattle.uslp_intake.specs.Intake.{paper_intake, taken_by, held_by, intaking};
 
 use uslp_kinds::{MAX_FRAME_LEN, ManagedParameters, Refusal};
 use uslp_octets::copy_octets;
-use uslp_reader::{FrameAnswer, TransferFrame};
+use uslp_reader::TransferFrame;
 
-// What a call did with its block: how many octets it took, and how many the holding buffer now holds.
-#[derive(Clone, Copy)]
+// What a call did with its block: how many octets it took, and how many the holding buffer now holds. Four ends, and no Result:
+// a caller goes on after three of them, and a stop too says what was taken.
+#[derive(Clone, Copy, Debug)]
 pub enum IntakeAnswer {
     // The block is taken whole, and what is held is no frame yet.
     Waiting {
@@ -39,13 +40,9 @@ impl IntakeAnswer {
         ensures { result ≡ taken_by (paper_intake self) }
     {
         match self {
-            IntakeAnswer::Waiting { taken, held: _ } => taken,
-            IntakeAnswer::Frame { taken, frame: _ } => taken,
-            IntakeAnswer::Stopped {
-                taken,
-                held: _,
-                refusal: _,
-            } => taken,
+            IntakeAnswer::Waiting { taken, .. }
+            | IntakeAnswer::Frame { taken, .. }
+            | IntakeAnswer::Stopped { taken, .. } => taken,
             IntakeAnswer::Refused(_) => 0,
         }
     }
@@ -55,13 +52,8 @@ impl IntakeAnswer {
         ensures { result ≡ held_by before (paper_intake self) }
     {
         match self {
-            IntakeAnswer::Waiting { taken: _, held } => held,
-            IntakeAnswer::Frame { taken: _, frame: _ } => 0,
-            IntakeAnswer::Stopped {
-                taken: _,
-                held,
-                refusal: _,
-            } => held,
+            IntakeAnswer::Waiting { held, .. } | IntakeAnswer::Stopped { held, .. } => held,
+            IntakeAnswer::Frame { .. } => 0,
             IntakeAnswer::Refused(_) => before,
         }
     }
@@ -69,6 +61,7 @@ impl IntakeAnswer {
 
 // Takes octets of the block behind those held, up to the one that decides; what is left of the block is to be offered again.
 // Refuses BAD_FIELD for a held number above MAX_FRAME_LEN, then SHORT_TARGET for a holding buffer below it.
+// The held number stands beside the buffer, since the memory is the caller's and fixed, and both are refused by a rule.
 #[tactic(auto, unfolding(crate::specs::Intake::intaking))]
 pub fn take_block(
     holding: &mut [u8],
@@ -104,11 +97,11 @@ fn take_wanted(
     let mut taken: usize = 0;
     loop {
         let end = held + taken;
-        match TransferFrame::from_bytes(&holding[0..end], managed) {
-            FrameAnswer::Done(frame) => {
+        match TransferFrame::from_bytes(&holding[..end], managed) {
+            Ok(frame) => {
                 return IntakeAnswer::Frame { taken, frame };
             }
-            FrameAnswer::Refused(refusal) => {
+            Err(refusal) => {
                 let wanted = refusal.lacking();
                 if wanted == 0 {
                     return IntakeAnswer::Stopped {
@@ -117,27 +110,26 @@ fn take_wanted(
                         refusal,
                     };
                 }
-                let rest = block.len() - taken;
-                if rest < wanted {
-                    hold(holding, end, block, taken, rest);
+                let rest = &block[taken..];
+                if rest.len() < wanted {
+                    hold(holding, end, rest);
                     return IntakeAnswer::Waiting {
-                        taken: taken + rest,
-                        held: end + rest,
+                        taken: taken + rest.len(),
+                        held: end + rest.len(),
                     };
                 }
-                hold(holding, end, block, taken, wanted);
+                hold(holding, end, &rest[..wanted]);
                 taken += wanted;
             }
         }
     }
 }
 
-// Copies n octets of the block from a place on into the holding buffer, from a place on.
-fn hold(holding: &mut [u8], at: usize, block: &[u8], from: usize, n: usize)
-    requires { (at + n ≤ length holding.old) × (from + n ≤ length block.now) }
-    ensures { holding.new ≡ paste holding.old at (drop from block.now) n }
+// Copies octets into the holding buffer, from a place on.
+fn hold(holding: &mut [u8], at: usize, octets: &[u8])
+    requires { at + length octets.now ≤ length holding.old }
+    ensures { holding.new ≡ paste holding.old at octets.now (length octets.now) }
 {
-    let end = at + n;
-    let past = from + n;
-    copy_octets(&block[from..past], &mut holding[at..end]);
+    let end = at + octets.len();
+    copy_octets(octets, &mut holding[at..end]);
 }

@@ -4,18 +4,13 @@ use Prim.Native.Nat.{ℕ}
 use mathlib.Core.List.{List, [], ◌∷◌}
 use mathlib.Core.Bool.{cond}
 use lib.Dec.{eqb}
+use Rattle.std.specs.Prelude.{Result, Ok, Err, IsErrAnd}
 use Rattle.uslp_kinds.specs.Outcome.{Outcome, done, refused, leaving}
 use Rattle.uslp_kinds.specs.Kinds.{rule_of}
-use Rattle.uslp_kinds.specs.Answers.{refusal_number, carried, paper_done, paper_length, paper_protocol}
+use Rattle.uslp_kinds.specs.Answers.{refusal_number, carried, refusal, paper}
 use Rattle.uslp_kinds.proofs.Cases.{rule_back}
 use Rattle.uslp_kinds.specs.declared.Refusal.{Refusal}
 use Rattle.uslp_kinds.specs.declared.Refusal.TheVariants.{ShortSource, ShortTarget, Truncated, BadVersion, BadProtocol, BadChecksum, FrameTooShort, BadCount, BadPointer, BadField, OcfMissing, TooLong, NotOpen, OtherWidth, AlreadyOpen, TableFull, TotalFull, BadForm, LacksFlag}
-use Rattle.uslp_kinds.specs.declared.DoneAnswer.{DoneAnswer}
-use Rattle.uslp_kinds.specs.declared.DoneAnswer.TheVariants as done_answer
-use Rattle.uslp_kinds.specs.declared.LengthAnswer.{LengthAnswer}
-use Rattle.uslp_kinds.specs.declared.LengthAnswer.TheVariants as length_answer
-use Rattle.uslp_kinds.specs.declared.ProtocolIdAnswer.{ProtocolIdAnswer}
-use Rattle.uslp_kinds.specs.declared.ProtocolIdAnswer.TheVariants as protocol_answer
 
 -- the refusals by number, those that carry nothing, one value and two
 abbrev bare : List (ℕ × Refusal)
@@ -61,27 +56,27 @@ refusal_back TotalFull = refl
 refusal_back BadForm = refl
 refusal_back LacksFlag = refl
 
--- the way back for an answer with the two constructors `Done` and `Refused`
-abbrev pub back : {A E : Type 0} → (A → E) → (Refusal → E) → Outcome A → E
-back D R (done x) = D x
-back D R (refused k vs) = R (refusal_of k vs)
+-- the way back for an answer
+abbrev pub answer_of : {A : Type 0} → Outcome A → Result A Refusal
+answer_of (done x) = Ok x
+answer_of (refused k vs) = Err (refusal_of k vs)
+
+pub paper_back : {A : Type 0} (r : Result A Refusal) → answer_of (paper r) ≡ r
+paper_back (Ok x) = refl
+paper_back (Err r) = ap Err (refusal_back r)
 
 -- a function that has a way back is one-to-one
 pub one_to_one : {A B : Type 0} (out : A → B) (way : B → A) → ((x : A) → way (out x) ≡ x) → {x y : A} → out x ≡ out y → x ≡ y
 one_to_one out way same {x} {y} e = sym (same x) ∙ ap way e ∙ same y
 
-pub done_back : (r : DoneAnswer) → back (λ (u : Unit {0}). done_answer.Done) done_answer.Refused (paper_done r) ≡ r
-done_back done_answer.Done = refl
-done_back (done_answer.Refused r) = ap done_answer.Refused (refusal_back r)
-
-pub length_back : (r : LengthAnswer) → back length_answer.Done length_answer.Refused (paper_length r) ≡ r
-length_back (length_answer.Done n) = refl
-length_back (length_answer.Refused r) = ap length_answer.Refused (refusal_back r)
-
-pub protocol_back : (r : ProtocolIdAnswer) → back protocol_answer.Done protocol_answer.Refused (paper_protocol r) ≡ r
-protocol_back (protocol_answer.Done p) = refl
-protocol_back (protocol_answer.Refused r) = ap protocol_answer.Refused (refusal_back r)
+pub paper_one : {A : Type 0} {x y : Result A Refusal} → paper x ≡ paper y → x ≡ y
+paper_one = one_to_one paper answer_of paper_back
 
 -- one equation of what a writing leaves is two
 pub leaving_one : {A : Type 0} {o p : Outcome A} {s t : List ℕ} → leaving o s ≡ leaving p t → (o ≡ p) × (s ≡ t)
 leaving_one e = (cc, cc)
+
+-- a refusal that `?` passes on says the same on paper
+pub passed_on : {A : Type 0} (r : Result A Refusal) (e : Refusal) {o : Outcome A} → IsErrAnd r (λ x. x ≡ e) → refusal e ≡ o → paper r ≡ o
+passed_on (Ok x) e p q = absurd p
+passed_on (Err x) e p q = ap refusal p ∙ q

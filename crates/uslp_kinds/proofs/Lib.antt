@@ -1,6 +1,7 @@
 pub mod Arms
 pub mod Back
 pub mod Cases
+pub mod Equality
 pub mod Outcomes
 pub mod Firsts
 pub mod Protocol

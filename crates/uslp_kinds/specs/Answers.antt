@@ -1,16 +1,9 @@
--- The table of refusals (docs/RULES.md, section 2), row by row, and what each answer that carries nothing, a number or an id says on paper.
-use Rattle.std.specs.Prelude.{ℕ, ◌-◌, Bool, false, cond, List, [], ◌∷◌, eqb, get_or}
+-- The table of refusals (docs/RULES.md, section 2), row by row, and what an answer says on paper.
+use Rattle.std.specs.Prelude.{ℕ, ◌-◌, Bool, false, cond, List, [], ◌∷◌, eqb, get_or, Result, Ok, Err}
 use Rattle.uslp_kinds.specs.Outcome.{Outcome, done, refused}
 use Rattle.uslp_kinds.specs.Kinds.{rule_number}
-use Rattle.uslp_kinds.specs.declared.UslpProtocolId.{UslpProtocolId}
 use Rattle.uslp_kinds.specs.declared.Refusal.{Refusal}
 use Rattle.uslp_kinds.specs.declared.Refusal.TheVariants.{ShortSource, ShortTarget, Truncated, BadVersion, BadProtocol, BadChecksum, FrameTooShort, BadCount, BadPointer, BadField, OcfMissing, TooLong, NotOpen, OtherWidth, AlreadyOpen, TableFull, TotalFull, BadForm, LacksFlag}
-use Rattle.uslp_kinds.specs.declared.DoneAnswer.{DoneAnswer}
-use Rattle.uslp_kinds.specs.declared.DoneAnswer.TheVariants as done_answer
-use Rattle.uslp_kinds.specs.declared.LengthAnswer.{LengthAnswer}
-use Rattle.uslp_kinds.specs.declared.LengthAnswer.TheVariants as length_answer
-use Rattle.uslp_kinds.specs.declared.ProtocolIdAnswer.{ProtocolIdAnswer}
-use Rattle.uslp_kinds.specs.declared.ProtocolIdAnswer.TheVariants as protocol_answer
 
 -- a refusal's number, and what it carries
 abbrev pub refusal_number : Refusal → ℕ
@@ -59,6 +52,11 @@ carried LacksFlag = []
 abbrev pub refusal : {A : Type 0} → Refusal → Outcome A
 refusal r = refused (refusal_number r) (carried r)
 
+-- an answer as the outcome that it tells of
+abbrev pub paper : {A : Type 0} → Result A Refusal → Outcome A
+paper (Ok x) = done x
+paper (Err r) = refusal r
+
 -- SHORT_SOURCE, and how many octets it lacks: expected less found, wherever the two count from; any other answer lacks none
 abbrev pub short : {A : Type 0} → Outcome A → Bool
 short (done x) = false
@@ -71,19 +69,7 @@ lacking (refused k vs) = cond (eqb k 1) (get_or vs 1 0 - get_or vs 0 0) 0
 abbrev pub lacking_of : Refusal → ℕ
 lacking_of r = lacking {A = Unit {0}} (refusal r)
 
-abbrev pub paper_done : DoneAnswer → Outcome (Unit {0})
-paper_done done_answer.Done = done tt
-paper_done (done_answer.Refused r) = refusal r
-
-abbrev pub paper_length : LengthAnswer → Outcome ℕ
-paper_length (length_answer.Done n) = done n
-paper_length (length_answer.Refused r) = refusal r
-
 -- how many octets a call wrote: none where it was refused
 abbrev pub length_of : Outcome ℕ → ℕ
 length_of (done n) = n
 length_of (refused k vs) = 0
-
-abbrev pub paper_protocol : ProtocolIdAnswer → Outcome UslpProtocolId
-paper_protocol (protocol_answer.Done p) = done p
-paper_protocol (protocol_answer.Refused r) = refusal r

@@ -1,10 +1,10 @@
-// The refusals of the library, the kinds of field that a frame carries, and the answers that carry nothing, a number or an id.
+// The refusals of the library, and the kinds of field that a frame carries.
 #![tactic(auto)]
 
 ghost use Rattle.std.specs.Prelude.{◌≡◌};
 ghost use Rattle.uslp_kinds.specs.Kinds.{source_or_dest_number, source_or_dest_of, bypass_number, bypass_of, command_number, command_of, rule_number, rule_of, fixed_length, protocol_number, protocol_of};
 ghost use Rattle.uslp_octets.specs.Octets.{PartOf, part_in, part_at};
-ghost use Rattle.uslp_kinds.specs.Answers.{refusal_number, lacking_of, length_of, paper_length, paper_protocol};
+ghost use Rattle.uslp_kinds.specs.Answers.{refusal_number, lacking_of, length_of, paper};
 
 use uslp_octets::part;
 
@@ -18,7 +18,7 @@ pub const MAX_COUNT_LEN: u8 = 7;
 pub const MAX_FRAME_LEN: usize = 65536;
 
 // What both ends of a link agree on beforehand, which no frame says.
-#[derive(Clone, Copy)]
+#[derive(Clone, Copy, Debug, PartialEq, Eq)]
 pub struct ManagedParameters {
     pub has_fecf: bool,
 }
@@ -29,25 +29,25 @@ pub const WITH_FECF: ManagedParameters = ManagedParameters { has_fecf: true };
 pub const NO_FECF: ManagedParameters = ManagedParameters { has_fecf: false };
 
 // Whether the spacecraft id names the source or the destination of the frame.
-#[derive(Clone, Copy)]
+#[derive(Clone, Copy, Debug, PartialEq, Eq)]
 pub enum SourceOrDestField {
     Source,
     Dest,
 }
 
-#[derive(Clone, Copy)]
+#[derive(Clone, Copy, Debug, PartialEq, Eq)]
 pub enum BypassSequenceControlFlag {
     SequenceControlledQoS,
     ExpeditedQoS,
 }
 
-#[derive(Clone, Copy)]
+#[derive(Clone, Copy, Debug, PartialEq, Eq)]
 pub enum ProtocolControlCommandFlag {
     TfdfContainsUserData,
     TfdfContainsProtocolInfo,
 }
 
-#[derive(Clone, Copy)]
+#[derive(Clone, Copy, Debug, PartialEq, Eq)]
 pub enum ConstructionRule {
     PacketSpanningMultipleFrames,
     StartOfMapaSduOrVcaSdu,
@@ -59,7 +59,7 @@ pub enum ConstructionRule {
     NoSegmentation,
 }
 
-#[derive(Clone, Copy)]
+#[derive(Clone, Copy, Debug, PartialEq, Eq)]
 pub enum UslpProtocolId {
     SpacePacketsOrEncapsulation,
     Cop1ControlCommands,
@@ -70,24 +70,11 @@ pub enum UslpProtocolId {
     Proximity1PseudoPacketIdentifier1,
     Spdu,
     Proximity1PseudoPacketIdentifier2,
-    Idle,
-}
-
-// The first header pointer or last valid octet pointer: rules 0 to 2 have one.
-#[derive(Clone, Copy)]
-pub enum FhpOrLvo {
-    Absent,
-    Present(u16),
-}
-
-#[derive(Clone, Copy)]
-pub enum OperationalControlField {
-    Absent,
-    Present(u32),
+    Idle = 31,
 }
 
 // Why a call was refused, with what a person at the bench needs to act.
-#[derive(Clone, Copy)]
+#[derive(Clone, Copy, Debug, PartialEq, Eq)]
 pub enum Refusal {
     ShortSource { found: usize, expected: usize },
     ShortTarget { found: usize, expected: usize },
@@ -110,61 +97,26 @@ pub enum Refusal {
     LacksFlag,
 }
 
-// For a call that only leaves something changed.
-#[derive(Clone, Copy)]
-pub enum DoneAnswer {
-    Done,
-    Refused(Refusal),
-}
-
-// How many octets were written, or are needed.
-#[derive(Clone, Copy)]
-pub enum LengthAnswer {
-    Done(usize),
-    Refused(Refusal),
-}
-
-#[derive(Clone, Copy)]
-pub enum ProtocolIdAnswer {
-    Done(UslpProtocolId),
-    Refused(Refusal),
-}
-
 impl Refusal {
     // The number of the row in the table of refusals.
     pub fn number(self) -> u8
         ensures { result ≡ refusal_number self }
     {
         match self {
-            Refusal::ShortSource {
-                found: _,
-                expected: _,
-            } => 1,
-            Refusal::ShortTarget {
-                found: _,
-                expected: _,
-            } => 2,
+            Refusal::ShortSource { .. } => 1,
+            Refusal::ShortTarget { .. } => 2,
             Refusal::Truncated => 3,
             Refusal::BadVersion(_) => 4,
             Refusal::BadProtocol(_) => 5,
-            Refusal::BadChecksum {
-                stored: _,
-                computed: _,
-            } => 6,
-            Refusal::FrameTooShort {
-                length: _,
-                needed: _,
-            } => 7,
-            Refusal::BadCount { count: _, width: _ } => 8,
+            Refusal::BadChecksum { .. } => 6,
+            Refusal::FrameTooShort { .. } => 7,
+            Refusal::BadCount { .. } => 8,
             Refusal::BadPointer(_) => 9,
             Refusal::BadField => 10,
             Refusal::OcfMissing => 11,
             Refusal::TooLong => 12,
             Refusal::NotOpen => 13,
-            Refusal::OtherWidth {
-                frame: _,
-                opened: _,
-            } => 14,
+            Refusal::OtherWidth { .. } => 14,
             Refusal::AlreadyOpen => 15,
             Refusal::TableFull => 16,
             Refusal::TotalFull => 17,
@@ -178,89 +130,80 @@ impl Refusal {
         ensures { result ≡ lacking_of self }
     {
         match self {
-            Refusal::ShortSource { found, expected } => {
-                if expected < found {
-                    0
-                } else {
-                    expected - found
-                }
-            }
+            Refusal::ShortSource { found, expected } => expected.saturating_sub(found),
             _ => 0,
         }
     }
 }
 
-impl SourceOrDestField {
-    // The case that the low bit names.
-    pub fn from_number(number: u8) -> SourceOrDestField
-        ensures { result ≡ source_or_dest_of number }
-    {
+// The case that the low bit names.
+impl From<u8> for SourceOrDestField {
+    ghost from_gives = { λ number field. field ≡ source_or_dest_of number };
+
+    fn from(number: u8) -> SourceOrDestField {
         if number % 2 == 1 {
             SourceOrDestField::Dest
         } else {
             SourceOrDestField::Source
         }
     }
+}
 
-    pub fn number(self) -> u8
-        ensures { result ≡ source_or_dest_number self }
-    {
-        match self {
-            SourceOrDestField::Source => 0,
-            SourceOrDestField::Dest => 1,
-        }
+impl From<SourceOrDestField> for u8 {
+    ghost from_gives = { λ role number. number ≡ source_or_dest_number role };
+
+    fn from(role: SourceOrDestField) -> u8 {
+        role as u8
     }
 }
 
-impl BypassSequenceControlFlag {
-    // The case that the low bit names.
-    pub fn from_number(number: u8) -> BypassSequenceControlFlag
-        ensures { result ≡ bypass_of number }
-    {
+// The case that the low bit names.
+impl From<u8> for BypassSequenceControlFlag {
+    ghost from_gives = { λ number field. field ≡ bypass_of number };
+
+    fn from(number: u8) -> BypassSequenceControlFlag {
         if number % 2 == 1 {
             BypassSequenceControlFlag::ExpeditedQoS
         } else {
             BypassSequenceControlFlag::SequenceControlledQoS
         }
     }
+}
 
-    pub fn number(self) -> u8
-        ensures { result ≡ bypass_number self }
-    {
-        match self {
-            BypassSequenceControlFlag::SequenceControlledQoS => 0,
-            BypassSequenceControlFlag::ExpeditedQoS => 1,
-        }
+impl From<BypassSequenceControlFlag> for u8 {
+    ghost from_gives = { λ bypass number. number ≡ bypass_number bypass };
+
+    fn from(bypass: BypassSequenceControlFlag) -> u8 {
+        bypass as u8
     }
 }
 
-impl ProtocolControlCommandFlag {
-    // The case that the low bit names.
-    pub fn from_number(number: u8) -> ProtocolControlCommandFlag
-        ensures { result ≡ command_of number }
-    {
+// The case that the low bit names.
+impl From<u8> for ProtocolControlCommandFlag {
+    ghost from_gives = { λ number field. field ≡ command_of number };
+
+    fn from(number: u8) -> ProtocolControlCommandFlag {
         if number % 2 == 1 {
             ProtocolControlCommandFlag::TfdfContainsProtocolInfo
         } else {
             ProtocolControlCommandFlag::TfdfContainsUserData
         }
     }
+}
 
-    pub fn number(self) -> u8
-        ensures { result ≡ command_number self }
-    {
-        match self {
-            ProtocolControlCommandFlag::TfdfContainsUserData => 0,
-            ProtocolControlCommandFlag::TfdfContainsProtocolInfo => 1,
-        }
+impl From<ProtocolControlCommandFlag> for u8 {
+    ghost from_gives = { λ command number. number ≡ command_number command };
+
+    fn from(command: ProtocolControlCommandFlag) -> u8 {
+        command as u8
     }
 }
 
-impl ConstructionRule {
-    // The rule that the low three bits name: there are eight, so none is unknown.
-    pub fn from_number(number: u8) -> ConstructionRule
-        ensures { result ≡ rule_of number }
-    {
+// The rule that the low three bits name: there are eight, so none is unknown.
+impl From<u8> for ConstructionRule {
+    ghost from_gives = { λ number rule. rule ≡ rule_of number };
+
+    fn from(number: u8) -> ConstructionRule {
         match number % 8 {
             0 => ConstructionRule::PacketSpanningMultipleFrames,
             1 => ConstructionRule::StartOfMapaSduOrVcaSdu,
@@ -272,76 +215,61 @@ impl ConstructionRule {
             _ => ConstructionRule::NoSegmentation,
         }
     }
+}
 
-    pub fn number(self) -> u8
-        ensures { result ≡ rule_number self }
-    {
-        match self {
-            ConstructionRule::PacketSpanningMultipleFrames => 0,
-            ConstructionRule::StartOfMapaSduOrVcaSdu => 1,
-            ConstructionRule::ContinuingPortionOfMapaSdu => 2,
-            ConstructionRule::OctetStream => 3,
-            ConstructionRule::StartingSegment => 4,
-            ConstructionRule::ContinuingSegment => 5,
-            ConstructionRule::LastSegment => 6,
-            ConstructionRule::NoSegmentation => 7,
-        }
-    }
+impl From<ConstructionRule> for u8 {
+    ghost from_gives = { λ rule number. number ≡ rule_number rule };
 
-    pub fn applicable_to_fixed_len_tfdz(self) -> bool
-        ensures { result ≡ fixed_length self }
-    {
-        self.number() < 3
+    fn from(rule: ConstructionRule) -> u8 {
+        rule as u8
     }
 }
 
-impl UslpProtocolId {
-    // Refuses BAD_PROTOCOL with the number.
-    pub fn from_number(number: u8) -> ProtocolIdAnswer
-        ensures { paper_protocol result ≡ protocol_of number }
+impl ConstructionRule {
+    pub fn applicable_to_fixed_len_tfdz(self) -> bool
+        ensures { result ≡ fixed_length self }
     {
+        u8::from(self) < 3
+    }
+}
+
+// Refuses BAD_PROTOCOL with the number.
+impl TryFrom<u8> for UslpProtocolId {
+    type Error = Refusal;
+
+    ghost try_from_gives = { λ number id. paper id ≡ protocol_of number };
+
+    fn try_from(number: u8) -> Result<UslpProtocolId, Refusal> {
         match number {
-            0 => ProtocolIdAnswer::Done(UslpProtocolId::SpacePacketsOrEncapsulation),
-            1 => ProtocolIdAnswer::Done(UslpProtocolId::Cop1ControlCommands),
-            2 => ProtocolIdAnswer::Done(UslpProtocolId::CopPControlCommands),
-            3 => ProtocolIdAnswer::Done(UslpProtocolId::Sdls),
-            4 => ProtocolIdAnswer::Done(UslpProtocolId::UserDefinedOctetStream),
-            5 => ProtocolIdAnswer::Done(UslpProtocolId::MissionSpecificInfo1MapaSduOrVcaSdu),
-            6 => ProtocolIdAnswer::Done(UslpProtocolId::Proximity1PseudoPacketIdentifier1),
-            7 => ProtocolIdAnswer::Done(UslpProtocolId::Spdu),
-            8 => ProtocolIdAnswer::Done(UslpProtocolId::Proximity1PseudoPacketIdentifier2),
-            31 => ProtocolIdAnswer::Done(UslpProtocolId::Idle),
-            _ => ProtocolIdAnswer::Refused(Refusal::BadProtocol(number)),
+            0 => Ok(UslpProtocolId::SpacePacketsOrEncapsulation),
+            1 => Ok(UslpProtocolId::Cop1ControlCommands),
+            2 => Ok(UslpProtocolId::CopPControlCommands),
+            3 => Ok(UslpProtocolId::Sdls),
+            4 => Ok(UslpProtocolId::UserDefinedOctetStream),
+            5 => Ok(UslpProtocolId::MissionSpecificInfo1MapaSduOrVcaSdu),
+            6 => Ok(UslpProtocolId::Proximity1PseudoPacketIdentifier1),
+            7 => Ok(UslpProtocolId::Spdu),
+            8 => Ok(UslpProtocolId::Proximity1PseudoPacketIdentifier2),
+            31 => Ok(UslpProtocolId::Idle),
+            _ => Err(Refusal::BadProtocol(number)),
         }
     }
+}
 
-    pub fn number(self) -> u8
-        ensures { result ≡ protocol_number self }
-    {
-        match self {
-            UslpProtocolId::SpacePacketsOrEncapsulation => 0,
-            UslpProtocolId::Cop1ControlCommands => 1,
-            UslpProtocolId::CopPControlCommands => 2,
-            UslpProtocolId::Sdls => 3,
-            UslpProtocolId::UserDefinedOctetStream => 4,
-            UslpProtocolId::MissionSpecificInfo1MapaSduOrVcaSdu => 5,
-            UslpProtocolId::Proximity1PseudoPacketIdentifier1 => 6,
-            UslpProtocolId::Spdu => 7,
-            UslpProtocolId::Proximity1PseudoPacketIdentifier2 => 8,
-            UslpProtocolId::Idle => 31,
-        }
+impl From<UslpProtocolId> for u8 {
+    ghost from_gives = { λ id number. number ≡ protocol_number id };
+
+    fn from(id: UslpProtocolId) -> u8 {
+        id as u8
     }
 }
 
 // The octets that a call wrote to the front of a buffer, as a part of it: nothing where it was refused.
-pub fn written(answer: LengthAnswer, buf: &[u8]) -> &[u8]
+pub fn written(answer: Result<usize, Refusal>, buf: &[u8]) -> &[u8]
     ensures { PartOf buf.entry
-        (part_at 0 (length_of (paper_length answer)) buf.now)
-        (part_in 0 (length_of (paper_length answer)) buf.now)
+        (part_at 0 (length_of (paper answer)) buf.now)
+        (part_in 0 (length_of (paper answer)) buf.now)
         result }
 {
-    match answer {
-        LengthAnswer::Done(n) => part(buf, 0, n),
-        LengthAnswer::Refused(_) => part(buf, 0, 0),
-    }
+    part(buf, 0, answer.unwrap_or(0))
 }

@@ -1,11 +1,9 @@
 -- The layout of a whole frame over its fields (docs/RULES.md, section 1.3): primary header, data field header, data, OCF if its flag is set,
 -- FECF if asked for.
-use Rattle.std.specs.Prelude.{◌≡◌, ℕ, ◌+◌, ◌^◌, ◌<◌, Bool, true, false, cond, List, [], ◌++◌, length}
+use Rattle.std.specs.Prelude.{◌≡◌, ℕ, ◌+◌, ◌^◌, ◌<◌, Bool, true, false, cond, List, [], ◌++◌, length, Option, Some, None}
 use Rattle.uslp_octets.specs.Octets.{AreOctets, octets, pack}
 use Rattle.uslp_checksum.specs.Checksum.{checksum_of}
 use Rattle.uslp_kinds.specs.declared.ManagedParameters.{ManagedParameters}
-use Rattle.uslp_kinds.specs.declared.OperationalControlField.{OperationalControlField}
-use Rattle.uslp_kinds.specs.declared.OperationalControlField.TheVariants.{Absent, Present}
 use Rattle.uslp_primary_header.specs.Header.{table, len_header, len_frame}
 use Rattle.uslp_primary_header.specs.Header as header
 use Rattle.uslp_primary_header.specs.declared.PrimaryHeader.{PrimaryHeader}
@@ -18,7 +16,7 @@ pub record Fields : Type 0 where
   pub header : PrimaryHeader
   pub field : TransferFrameDataFieldHeader
   pub contents : List ℕ
-  pub ocf : OperationalControlField
+  pub ocf : Option ℕ
 
 -- where data starts
 abbrev pub data_start : PrimaryHeader → TransferFrameDataFieldHeader → ℕ
@@ -28,13 +26,13 @@ data_start h f = len_header h + len_field f
 abbrev pub needed : PrimaryHeader → TransferFrameDataFieldHeader → ManagedParameters → ℕ
 needed h f managed = data_start h f + cond h.ocf_flag 4 0 + cond managed.has_fecf 2 0
 
-abbrev pub present : OperationalControlField → Bool
-present Absent = false
-present (Present n) = true
+abbrev pub present : Option ℕ → Bool
+present None = false
+present (Some n) = true
 
-abbrev pub ocf_octets : OperationalControlField → List ℕ
-ocf_octets Absent = []
-ocf_octets (Present n) = octets 4 n
+abbrev pub ocf_octets : Option ℕ → List ℕ
+ocf_octets None = []
+ocf_octets (Some n) = octets 4 n
 
 -- the octets before the FECF; the header's spare bits are a parameter
 abbrev pub body : ℕ → Fields → List ℕ
@@ -53,6 +51,6 @@ pub record WellFormed (managed : ManagedParameters) (x : Fields) : Type 0 where
   pub header_fits : header.Fitting x.header
   pub field_fits : field.Fitting x.field
   pub contents_fit : AreOctets x.contents
-  pub ocf_fits : (n : ℕ) → x.ocf ≡ Present n → n < 2 ^ 32
+  pub ocf_fits : (n : ℕ) → x.ocf ≡ Some n → n < 2 ^ 32
   pub ocf_flagged : x.header.ocf_flag ≡ present x.ocf
   pub is_total : len_frame x.header ≡ needed x.header x.field managed + length x.contents

@@ -23,13 +23,8 @@ pub fn needed_len(
 ) -> usize
     ensures { result ≡ needed header field managed }
 {
-    data_start(header, field) + ocf_len(header.ocf_flag) + fecf_len(managed.has_fecf)
-}
-
-fn ocf_len(has_ocf: bool) -> usize
-    ensures { result ≡ cond has_ocf 4 0 }
-{
-    if has_ocf { 4 } else { 0 }
+    let ocf_len = if header.ocf_flag { 4 } else { 0 };
+    data_start(header, field) + ocf_len + fecf_len(managed.has_fecf)
 }
 
 pub fn fecf_len(has_fecf: bool) -> usize

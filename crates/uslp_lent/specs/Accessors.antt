@@ -1,30 +1,8 @@
 -- What the accessors of a reader answer: a part of the frame that was read, or why there is none.
-use Rattle.std.specs.Prelude.{ℕ}
 use Rattle.uslp_kinds.specs.Outcome.{Outcome, done, refused}
-use Rattle.uslp_kinds.specs.Answers.{refusal}
-use Rattle.uslp_kinds.specs.declared.SourceOrDestField.{SourceOrDestField}
-use Rattle.uslp_kinds.specs.declared.OperationalControlField.{OperationalControlField}
 use Rattle.uslp_reader.specs.declared.TransferFrame.{TransferFrame}
-use Rattle.uslp_lent.specs.declared.reader.IdAnswer.{IdAnswer}
-use Rattle.uslp_lent.specs.declared.reader.IdAnswer.TheVariants as id_answer
-use Rattle.uslp_lent.specs.declared.reader.RoleAnswer.{RoleAnswer}
-use Rattle.uslp_lent.specs.declared.reader.RoleAnswer.TheVariants as role_answer
-use Rattle.uslp_lent.specs.declared.reader.OcfAnswer.{OcfAnswer}
-use Rattle.uslp_lent.specs.declared.reader.OcfAnswer.TheVariants as ocf_answer
 
 -- a refusal of the frame is the refusal of each of its parts
 abbrev pub of_frame : {A : Type 0} → (TransferFrame → A) → Outcome TransferFrame → Outcome A
 of_frame part (done x) = done (part x)
 of_frame part (refused k vs) = refused k vs
-
-abbrev pub paper_id : IdAnswer → Outcome ℕ
-paper_id (id_answer.Done n) = done n
-paper_id (id_answer.Refused r) = refusal r
-
-abbrev pub paper_role : RoleAnswer → Outcome SourceOrDestField
-paper_role (role_answer.Done role) = done role
-paper_role (role_answer.Refused r) = refusal r
-
-abbrev pub paper_ocf : OcfAnswer → Outcome OperationalControlField
-paper_ocf (ocf_answer.Done ocf) = done ocf
-paper_ocf (ocf_answer.Refused r) = refusal r

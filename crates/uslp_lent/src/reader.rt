@@ -1,133 +1,104 @@
-// A reader that keeps the lent octets beside what was found in them: thin, each function hands both fields to `parts`.
+// A reader that keeps the lent octets beside what was found in them.
 ghost use Rattle.std.specs.Prelude.{◌≡◌, length};
 ghost use Rattle.uslp_octets.specs.Octets.{PartOf};
-ghost use Rattle.uslp_kinds.specs.Answers.{paper_length};
-ghost use Rattle.uslp_primary_header.specs.Header.{paper_header, len_frame};
-ghost use Rattle.uslp_data_field_header.specs.Field.{paper_field};
-ghost use Rattle.uslp_reader.specs.Reader.{paper_frame, frame_reading, contents_read, contents_read_at};
-ghost use Rattle.uslp_lent.specs.Accessors.{of_frame, paper_id, paper_role, paper_ocf};
+ghost use Rattle.uslp_primary_header.specs.Header.{len_frame};
+ghost use Rattle.uslp_reader.specs.Reader.{frame_reading, contents_read, contents_read_at};
+ghost use Rattle.uslp_lent.specs.Accessors.{of_frame};
+ghost use Rattle.uslp_kinds.specs.Answers.{paper};
 
-use super::parts;
-use uslp_data_field_header::DataFieldHeaderAnswer;
-use uslp_kinds::{
-    LengthAnswer, ManagedParameters, OperationalControlField, Refusal, SourceOrDestField,
-};
-use uslp_primary_header::HeaderAnswer;
-use uslp_reader::FrameAnswer;
+use uslp_data_field_header::TransferFrameDataFieldHeader;
+use uslp_kinds::{ManagedParameters, Refusal, SourceOrDestField};
+use uslp_primary_header::PrimaryHeader;
+use uslp_reader::{TransferFrame, data_of};
 
-// The frame that was read, or why it was refused: plain, so that it can stand beside the octets.
-#[derive(Clone, Copy)]
-pub struct FrameFound {
-    pub answer: FrameAnswer,
-}
-
-// Stands on a refusal too, so that it shows the octets that it was given: `answer` says which it is.
-#[derive(Clone, Copy)]
+// Stands on a refusal too, so that it shows the octets that it was given: `found` says which it is.
+#[derive(Clone, Copy, Debug)]
 pub struct TransferFrameReader<'a> {
     pub raw: &'a [u8],
-    pub found: FrameFound,
-}
-
-// The id of a spacecraft, a virtual channel or a map.
-#[derive(Clone, Copy)]
-pub enum IdAnswer {
-    Done(u16),
-    Refused(Refusal),
-}
-
-#[derive(Clone, Copy)]
-pub enum RoleAnswer {
-    Done(SourceOrDestField),
-    Refused(Refusal),
-}
-
-#[derive(Clone, Copy)]
-pub enum OcfAnswer {
-    Done(OperationalControlField),
-    Refused(Refusal),
+    pub found: Result<TransferFrame, Refusal>,
 }
 
 // Every accessor but `raw_frame` and `data` answers the reader's refusal where there is no frame, so that none is mistaken for one.
 impl<'a> TransferFrameReader<'a> {
     // The refusals are those of TransferFrame::from_bytes, and `answer` shows them.
     pub fn from_bytes(buf: &'a [u8], managed: ManagedParameters) -> TransferFrameReader<'a>
-        ensures { (result.raw ≡ buf.entry) × (paper_frame result.found.answer ≡ frame_reading buf.now managed) }
+        ensures { (result.raw ≡ buf.entry) × (paper result.found ≡ frame_reading buf.now managed) }
     {
         TransferFrameReader {
             raw: buf,
-            found: parts::find(buf, managed),
+            found: TransferFrame::from_bytes(buf, managed),
         }
     }
 
-    pub fn answer(self) -> FrameAnswer
-        ensures { result ≡ self.entry.found.answer }
+    pub fn answer(self) -> Result<TransferFrame, Refusal>
+        ensures { result ≡ self.entry.found }
     {
-        parts::answer(self.raw, self.found)
+        self.found
     }
 
     // The whole lent buffer, octets after the frame included.
     pub fn raw_frame(self) -> &'a [u8]
         ensures { result ≡ self.entry.raw }
     {
-        parts::raw_frame(self.raw, self.found)
+        self.raw
     }
 
     // The data as a part of the lent buffer; nothing on a refusal.
     pub fn data(self) -> &'a [u8]
         ensures { PartOf self.entry.raw
-            (contents_read_at (paper_frame self.entry.found.answer) self.entry.raw.now)
-            (contents_read (paper_frame self.entry.found.answer) self.entry.raw.now)
+            (contents_read_at (paper self.entry.found) self.entry.raw.now)
+            (contents_read (paper self.entry.found) self.entry.raw.now)
             result }
     {
-        parts::data(self.raw, self.found)
+        data_of(self.found, self.raw)
     }
 
-    pub fn len_frame(self) -> LengthAnswer
-        ensures { paper_length result ≡ of_frame (λ x. len_frame x.primary_header) (paper_frame self.entry.found.answer) }
+    pub fn len_frame(self) -> Result<usize, Refusal>
+        ensures { paper result ≡ of_frame (λ x. len_frame x.primary_header) (paper self.entry.found) }
     {
-        parts::len_frame(self.raw, self.found)
+        self.found.map(|frame| frame.len_frame())
     }
 
-    pub fn primary_header(self) -> HeaderAnswer
-        ensures { paper_header result ≡ of_frame (λ x. x.primary_header) (paper_frame self.entry.found.answer) }
+    pub fn primary_header(self) -> Result<PrimaryHeader, Refusal>
+        ensures { paper result ≡ of_frame (λ x. x.primary_header) (paper self.entry.found) }
     {
-        parts::primary_header(self.raw, self.found)
+        self.found.map(|frame| frame.primary_header())
     }
 
-    pub fn data_field_header(self) -> DataFieldHeaderAnswer
-        ensures { paper_field result ≡ of_frame (λ x. x.data_field_header) (paper_frame self.entry.found.answer) }
+    pub fn data_field_header(self) -> Result<TransferFrameDataFieldHeader, Refusal>
+        ensures { paper result ≡ of_frame (λ x. x.data_field_header) (paper self.entry.found) }
     {
-        parts::data_field_header(self.raw, self.found)
+        self.found.map(|frame| frame.data_field_header())
     }
 
-    pub fn operational_control_field(self) -> OcfAnswer
-        ensures { paper_ocf result ≡ of_frame (λ x. x.operational_control_field) (paper_frame self.entry.found.answer) }
+    pub fn operational_control_field(self) -> Result<Option<u32>, Refusal>
+        ensures { paper result ≡ of_frame (λ x. x.operational_control_field) (paper self.entry.found) }
     {
-        parts::operational_control_field(self.raw, self.found)
+        self.found.map(|frame| frame.operational_control_field())
     }
 
-    pub fn vc_id(self) -> IdAnswer
-        ensures { paper_id result ≡ of_frame (λ x. x.primary_header.vc_id) (paper_frame self.entry.found.answer) }
+    pub fn vc_id(self) -> Result<u8, Refusal>
+        ensures { paper result ≡ of_frame (λ x. x.primary_header.vc_id) (paper self.entry.found) }
     {
-        parts::vc_id(self.raw, self.found)
+        self.found.map(|frame| frame.vc_id())
     }
 
-    pub fn map_id(self) -> IdAnswer
-        ensures { paper_id result ≡ of_frame (λ x. x.primary_header.map_id) (paper_frame self.entry.found.answer) }
+    pub fn map_id(self) -> Result<u8, Refusal>
+        ensures { paper result ≡ of_frame (λ x. x.primary_header.map_id) (paper self.entry.found) }
     {
-        parts::map_id(self.raw, self.found)
+        self.found.map(|frame| frame.map_id())
     }
 
-    pub fn spacecraft_id(self) -> IdAnswer
-        ensures { paper_id result ≡ of_frame (λ x. x.primary_header.spacecraft_id) (paper_frame self.entry.found.answer) }
+    pub fn spacecraft_id(self) -> Result<u16, Refusal>
+        ensures { paper result ≡ of_frame (λ x. x.primary_header.spacecraft_id) (paper self.entry.found) }
     {
-        parts::spacecraft_id(self.raw, self.found)
+        self.found.map(|frame| frame.spacecraft_id())
     }
 
-    pub fn source_or_dest_field(self) -> RoleAnswer
-        ensures { paper_role result ≡ of_frame (λ x. x.primary_header.source_or_dest_field) (paper_frame self.entry.found.answer) }
+    pub fn source_or_dest_field(self) -> Result<SourceOrDestField, Refusal>
+        ensures { paper result ≡ of_frame (λ x. x.primary_header.source_or_dest_field) (paper self.entry.found) }
     {
-        parts::source_or_dest_field(self.raw, self.found)
+        self.found.map(|frame| frame.source_or_dest_field())
     }
 }
 

@@ -7,7 +7,7 @@ use std::env::{Env, FillError};
 use std::fs::{File, Files};
 use std::io::Read;
 use std::{io, str};
-use uslp_kinds::LengthAnswer;
+use uslp_kinds::written;
 use uslp_listing::{LISTING_ROOM, MAX_RECORDING_LEN};
 
 // An argument has at most so many octets.
@@ -69,7 +69,7 @@ fn list_from<R: Print, I: Read>(rt: &R, input: &mut I) -> io::Result<()> {
     print_listing(rt, &recording[..n])
 }
 
-// Reads until the buffer is full, the input ends or a read fails.
+// Reads until the buffer is full, the input ends or a read fails. What came before counts, which std's `read_exact` does not say.
 fn read_full<I: Read>(input: &mut I, buf: &mut [u8]) -> usize
     ensures { result ≤ length buf.new }
 {
@@ -86,10 +86,8 @@ fn read_full<I: Read>(input: &mut I, buf: &mut [u8]) -> usize
 
 fn print_listing(rt: &impl Print, recording: &[u8]) -> io::Result<()> {
     let mut text = blank();
-    let LengthAnswer::Done(length) = uslp_listing::list(recording, &mut text) else {
-        return Ok(());
-    };
-    rt.write_all(&text[..length])
+    let length = uslp_listing::list(recording, &mut text);
+    rt.write_all(written(length, &text))
 }
 
 // Apart, so that no other proof computes on so long an array.

@@ -1,16 +1,13 @@
 -- What the definitions of the listing say, path by path, and how long its lines are.
-use mathlib.Core.Path.{◌≡◌, refl, ap, ap₂, sym, ◌∙◌}
+use mathlib.Core.Path.{◌≡◌, refl, ap, ap₂, subst, ◌∙◌}
 use Prim.Native.Nat.{ℕ, suc, ◌+◌, ◌-◌, ◌^◌, ◌<◌, ◌≤◌}
-use mathlib.Core.Bool.{Bool, cond}
 use mathlib.Core.List.{List, [], ◌∷◌, ◌++◌, append_assoc}
 use native.Mathlib.Nat.{zero-add}
 use native.Mathlib.Omega.{arith}
 use borrow.Author.Tests.{lt-ltb, le-ltb}
-use lib.Dec.{ltb}
 use lib.ListN.{length, drop, length-append, length-drop}
 use Rattle.uslp_kinds.specs.Managed.{no_fecf}
-use Rattle.uslp_kinds.specs.Outcome.{Outcome, done, refused, leaving}
-use Rattle.uslp_kinds.proofs.Outcomes.{done_one, passed, written_done}
+use Rattle.uslp_kinds.specs.Outcome.{done, refused, leaving}
 use Rattle.uslp_primary_header.specs.Header.{len_frame}
 use Rattle.uslp_reader.specs.Reader.{frame_reading}
 use Rattle.uslp_reader.specs.EndToEnd.{Cut, cut, stopping}
@@ -137,13 +134,8 @@ module _ (s t : List ℕ) where
       let w = told_whole (omega arith) p in
       simp (le-ltb (length t) room h, is) (ap₂ (λ (n : ℕ) (x : List ℕ). leaving (done n) x) w.0 w.1)
 
-  -- a text that was written lies in the buffer
-  pub over_inside : {end : ℕ} {left : List ℕ} → leaving (done end) left ≡ listing_over s t → end ≤ length left
-  unfolding listing_over
-  over_inside {end} {left} e =
-      let long : ℕ = length (listing s) in
-      let b : Bool = ltb (length t) room in
-      let no : Outcome ℕ = refused 2 (length t ∷ room ∷ []) in
-      let w = written_done (cond b no (done long)) (listing s ++ drop long t) t (sym e) in
-      let p = passed 2 (length t ∷ room ∷ []) b (done long) w.0 in
-      omega (arith, done_one p.1, ap length w.1, length-append (listing s) (drop long t))
+  -- the same where the text stands on a page over that buffer, which the page leaves to its lender
+  pub over_put : {end : ℕ} {text now left : List ℕ} → room ≤ length t → listing s ≡ text → length text ≤ room
+      → Told text 0 t end now → now ≡ left
+      → leaving (done end) left ≡ listing_over s t
+  over_put {end} {text} h is fits p e = over_done h is fits (subst (λ (x : List ℕ). Told text 0 t end x) e p)

@@ -6,10 +6,9 @@ ghost use Rattle.uslp_end_to_end.specs.Many.{many_hearing};
 
 use std::io;
 use std::io::Write;
-use uslp_answers::channels::say_done;
-use uslp_answers::{say, say_field, say_zero};
-use uslp_end_to_end::{Tally, hear_many};
-use uslp_kinds::{DoneAnswer, ManagedParameters};
+use uslp_answers::say_done;
+use uslp_end_to_end::hear_many;
+use uslp_kinds::ManagedParameters;
 use uslp_record::ChannelRecord;
 
 // The place reached, the tally, and why the call stopped there.
@@ -24,24 +23,12 @@ pub fn many<W: Write>(
     let hearing = hear_many(*channels, octets, managed);
     *channels = hearing.next;
     let tally = hearing.tally;
-    let stop = hearing.stop;
-    say_zero(out)?;
-    say_field(out, hearing.place as u64)?;
-    say_tally(out, tally)?;
-    say_stop(out, stop)
-}
-
-fn say_tally<W: Write>(out: &mut W, tally: Tally) -> io::Result<()> {
-    say_field(out, tally.new)?;
-    say_field(out, tally.missing)?;
-    say_field(out, tally.repeats)?;
-    say_field(out, tally.late)?;
-    say_field(out, tally.not_open)?;
-    say_field(out, tally.other_width)?;
-    say_field(out, tally.total_full)
-}
-
-fn say_stop<W: Write>(out: &mut W, stop: DoneAnswer) -> io::Result<()> {
-    say(out, b" ")?;
-    say_done(out, stop)
+    write!(out, "0 {} {} {} ", hearing.place, tally.new, tally.missing)?;
+    write!(out, "{} {} ", tally.repeats, tally.late)?;
+    write!(
+        out,
+        "{} {} {} ",
+        tally.not_open, tally.other_width, tally.total_full
+    )?;
+    say_done(out, hearing.stop)
 }

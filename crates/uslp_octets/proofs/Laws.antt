@@ -1,17 +1,17 @@
 -- Laws of numbers and rows of fields as octets, for any width, length and table.
 use mathlib.Core.Path.{◌≡◌, refl, ap, ap₂, sym, ◌∙◌, subst}
 use Prim.Native.Nat.{ℕ, zero, suc, ◌+◌, ◌*◌, ◌/◌, ◌%◌, ◌^◌, ◌-◌, ◌<◌, ◌≤◌}
-use mathlib.Core.List.{List, [], ◌∷◌, ◌++◌, append-nil}
+use mathlib.Core.List.{List, [], ◌∷◌, ◌++◌}
 use Prim.Native.String.{String}
 use native.Mathlib.Omega.{arith}
 use native.Mathlib.Decide.{dec_lt}
 use native.Mathlib.Numerals.{add-one}
-use native.Mathlib.Nat.{mul-suc, pow-suc, mul-add-div_right, div-div-eq-div-mul, suc-add, zero-add, mul_assoc, one-le-pow, div-eq_of_lt, mul_comm, add_comm, add-mul, add-zero, add_assoc, sub-zero, le_refl, div-one, pow-zero, mod-eq_of_lt, mod-lt, add-suc, add-mul-mod_self_right, pow-le-pow_right}
+use native.Mathlib.Nat.{mul-suc, pow-suc, mul-add-div_right, div-div-eq-div-mul, suc-add, zero-add, mul_assoc, one-le-pow, div-eq_of_lt, mul_comm, add_comm, add-mul, add-zero, add_assoc, sub-zero, le_refl, div-one, mod-eq_of_lt, mod-lt, add-suc, add-mul-mod_self_right, pow-le-pow_right}
 use lib.Pow.{pow-add, pow_pos, mod-pow-add, high, low}
 use lib.Arith.{digits_lt}
 use lib.Dec.{lit<}
 use lib.ListN.{length, take, drop, get_or, set, length-take, length-drop, get_or-append, get_or-eq_default}
-use lib.Seq.{get_or-append-add, get_or-drop, get_or-take, take-suc, append_snoc, set_at, length-take-le, take-length, take_all, take_at, drop_at}
+use lib.Seq.{get_or-append-add, get_or-drop, get_or-take, take-suc, append_snoc, set_at, length-take-le, take_all, take_at, drop_at}
 use Rattle.uslp_octets.specs.Octets.{AreOctets, BitField, bits_in, value_of, Fits, split, octets, pack, unpack, word, overlaid}
 
 pub pow_eight : (w : ℕ) → 2 ^ (8 * w) ≡ 256 ^ w
@@ -260,7 +260,7 @@ module _ (name : String) (k v m : ℕ) (fs : List BitField) (whole : bits_in fs 
       (ap (λ (y : ℕ). y % 2 ^ (8 * k)) (high (word 0 k s) (bits_in fs) low) ∙ mod-eq_of_lt (rw (pow_eight k) (word_lt s 0 oct k)))
       (split_low fs (word 0 k s) (word k m s) ∙ ap (split fs) (rest ∙ ap (λ (j : ℕ). word 0 j (drop k s)) (sym (eighth fs m whole)))))
 
--- a run of cells filled from the end, whatever the cells: one more in front, all of them, none of them
+-- a run of cells filled from the end, whatever the cells: one more in front
 module _ (run : ℕ → List ℕ) (cell : ℕ → ℕ) (more : (k : ℕ) → run (suc k) ≡ cell k ∷ run k) (d : List ℕ) where
   pub filled_more : (i : ℕ) → 0 < i → i ≤ length d
       → set (take i d ++ run (length d - i)) (i - 1) (cell (length d - i)) ≡ take (i - 1) d ++ run (length d - (i - 1))
@@ -274,19 +274,17 @@ module _ (run : ℕ → List ℕ) (cell : ℕ → ℕ) (more : (k : ℕ) → run
       ∙ set_at (take (i - 1) d) (get_or d (i - 1) 0) (run (length d - i)) (cell (length d - i)) (i - 1) (length-take-le (i - 1) d (omega arith))
       ∙ ap (λ (l : List ℕ). take (i - 1) d ++ l) (sym (ap run f ∙ more (length d - i)))
 
-  pub filled_all : (i : ℕ) → i ≡ 0 → take i d ++ run (length d - i) ≡ run (length d)
-  filled_all i e = ap (λ (k : ℕ). take k d ++ run (length d - k)) e ∙ ap run (sub-zero (length d))
-
-  pub filled_none : run 0 ≡ [] → d ≡ take (length d) d ++ run (length d - length d)
-  filled_none e =
-      let z : 0 ≡ length d - length d = omega arith in
-      sym (take-length d) ∙ sym (append-nil (take (length d) d)) ∙ ap (λ (l : List ℕ). take (length d) d ++ l) (sym e ∙ ap run z)
-
 -- what is left of a number after so many cells of a base
 pub rest_less : (b n i v : ℕ) → 0 < i → i ≤ n → v / b ^ (n - i) / b ≡ v / b ^ (n - (i - 1))
 rest_less b n i v h k =
     let f : n - (i - 1) ≡ suc (n - i) = omega arith in
     div-div-eq-div-mul v (b ^ (n - i)) b ∙ ap (λ (p : ℕ). v / p) (sym (pow-suc b (n - i)) ∙ ap (λ (m : ℕ). b ^ m) (sym f))
 
-pub rest_all : (b n v : ℕ) → v ≡ v / b ^ (n - n)
-rest_all b n v = let z : 0 ≡ n - n = omega arith in sym (div-one v) ∙ ap (λ (p : ℕ). v / p) (sym (pow-zero b)) ∙ ap (λ (k : ℕ). v / b ^ k) z
+-- a turn of a loop that fills a run with a number's places, from the last on: what is left of the number, and the cells
+pub filled_turn : (run : ℕ → List ℕ) (put : ℕ → ℕ) (b v : ℕ) → ((k : ℕ) → run (suc k) ≡ put (v / b ^ k % b) ∷ run k)
+    → (d t : List ℕ) (r i : ℕ) → 0 < i → i ≤ length d → r ≡ v / b ^ (length d - i) → t ≡ take i d ++ run (length d - i)
+    → (r / b ≡ v / b ^ (length d - (i - 1))) × (set t (i - 1) (put (r % b)) ≡ take (i - 1) d ++ run (length d - (i - 1)))
+filled_turn run put b v more d t r i h k left filled = (
+  ap (λ (x : ℕ). x / b) left ∙ rest_less b (length d) i v h k,
+  ap₂ (λ (x : List ℕ) (y : ℕ). set x (i - 1) (put (y % b))) filled left ∙ filled_more run (λ (n : ℕ). put (v / b ^ n % b)) more d i h k,
+)

@@ -8,36 +8,19 @@ ghost use Rattle.uslp_octets.specs.Octets.{octets, word, overlaid, part_in, part
 pub fn copy_octets(from: &[u8], to: &mut [u8])
     ensures { to.new ≡ overlaid from.now to.old }
 {
-    let mut i: usize = 0;
-    while i < from.len() && i < to.len() {
-        to[i] = from[i];
-        i += 1;
-    }
+    let n = from.len().min(to.len());
+    to[..n].copy_from_slice(&from[..n]);
 }
 
-// Fills `to` with a number's low octets.
+// Fills `to` with a number's low octets, from the last on: by index, since std says of `iter_mut().rev()` only that the length stays.
 pub fn put_be_number(value: u64, to: &mut [u8])
     ensures { to.new ≡ octets (length to.old) value }
 {
     let mut rest = value;
-    let mut i: usize = to.len();
-    while 0 < i {
-        i -= 1;
+    for i in (0..to.len()).rev() {
         to[i] = (rest % 256) as u8;
         rest = rest / 256;
     }
-}
-
-pub fn be_u16(a: u8, b: u8) -> u16
-    ensures { result ≡ a * 256 + b }
-{
-    a as u16 * 256 + b as u16
-}
-
-pub fn be_u32(a: u8, b: u8, c: u8, d: u8) -> u32
-    ensures { result ≡ ((a * 256 + b) * 256 + c) * 256 + d }
-{
-    ((a as u32 * 256 + b as u32) * 256 + c as u32) * 256 + d as u32
 }
 
 // The number that octets make, of more than eight the last eight.
@@ -45,27 +28,21 @@ pub fn be_number(octets: &[u8]) -> u64
     ensures { result ≡ word 0 (length octets.now) octets.now % 2 ^ 64 }
 {
     let mut number: u64 = 0;
-    let mut i: usize = 0;
-    while i < octets.len() {
-        number = moved_in(number, octets[i]);
-        i += 1;
+    for octet in octets {
+        number = moved_in(number, *octet);
     }
     number
 }
 
 // The n octets from a place on as a part of those lent; nothing where they do not reach so far.
+// Not by `get`, which promises what a part shows and not where it lies.
 pub fn part(octets: &[u8], start: usize, n: usize) -> &[u8]
     ensures { PartOf octets.entry (part_at start n octets.now) (part_in start n octets.now) result }
 {
-    let found = octets.len();
-    if start > found {
-        return &octets[0..0];
+    match start.checked_add(n) {
+        Some(end) if end <= octets.len() => &octets[start..end],
+        _ => &octets[..0],
     }
-    if n > found - start {
-        return &octets[0..0];
-    }
-    let end = start + n;
-    &octets[start..end]
 }
 
 // One octet more at the end; the eight last stay.

@@ -5,3 +5,4 @@ pub mod RoundTrip
 pub mod Rows
 pub mod WritePaths
 pub mod Behind
+pub mod Equality

@@ -17,13 +17,11 @@ use Rattle.uslp_octets.proofs.Laws.{length_octets, octets_word, word_octets, wor
 use Rattle.uslp_kinds.specs.Outcome.{Outcome, done, refused, leaving}
 use Rattle.uslp_kinds.specs.Kinds.{source_or_dest_number, source_or_dest_of, bypass_number, bypass_of, command_number, command_of}
 use Rattle.uslp_kinds.proofs.Cases.{source_back, bypass_back, command_back}
-use Rattle.uslp_kinds.proofs.Back.{back, refusal_back, one_to_one, leaving_one}
+use Rattle.uslp_kinds.proofs.Back.{one_to_one, leaving_one}
 use Rattle.uslp_kinds.proofs.Outcomes.{not_done}
 use Rattle.uslp_kinds.proofs.Firsts.{Check, Passing, first_done, first_up_to}
-use Rattle.uslp_primary_header.specs.Header.{paper_header, flag, fixed_table, table, len_header, with_count, same_but_width, header_of, format, rows_in, spare_in, reading_of, header_checking, header_reading, header_writing, Fitting}
+use Rattle.uslp_primary_header.specs.Header.{flag, fixed_table, table, len_header, with_count, same_but_width, header_of, format, rows_in, spare_in, reading_of, header_checking, header_reading, header_writing, Fitting}
 use Rattle.uslp_primary_header.specs.declared.PrimaryHeader.{PrimaryHeader}
-use Rattle.uslp_primary_header.specs.declared.HeaderAnswer.{HeaderAnswer}
-use Rattle.uslp_primary_header.specs.declared.HeaderAnswer.TheVariants as header_answer
 use Rattle.uslp_primary_header.proofs.Checks.{count_in, checks_done, checks_same}
 use Rattle.uslp_primary_header.proofs.Rows.{header_eq, flag_back, rows_header, rows_fit, rows_back, table_split}
 use Rattle.uslp_primary_header.proofs.WritePaths.{writing_refused, writing_short, writing_done}
@@ -182,8 +180,3 @@ module _ (a b : PrimaryHeader) where
 
   pub same_exactly : (same_but_width a b ≡ true) ↔ (with_count b.vc_frame_count_len a.vc_frame_count a ≡ b)
   same_exactly = (all_same, λ e. ap (same_but_width a) (sym e) ∙ simp same)
-
--- an answer on paper has a way back
-pub header_one : (r : HeaderAnswer) → back header_answer.Done header_answer.Refused (paper_header r) ≡ r
-header_one (header_answer.Done h) = refl
-header_one (header_answer.Refused r) = ap header_answer.Refused (refusal_back r)

@@ -3,17 +3,10 @@ use Rattle.std.specs.Prelude.{◌≡◌, ℕ, ◌+◌, ◌*◌, ◌-◌, ◌<◌
 use Rattle.uslp_octets.specs.Octets.{BitField, pack, unpack, named, word}
 use Rattle.uslp_kinds.specs.Outcome.{Outcome, done, refused, Written, only_if_done, first_of}
 use Rattle.uslp_kinds.specs.Kinds.{source_or_dest_number, source_or_dest_of, bypass_number, bypass_of, command_number, command_of, count_bad}
-use Rattle.uslp_kinds.specs.Answers.{refusal}
 use Rattle.uslp_kinds.specs.declared.SourceOrDestField.{SourceOrDestField}
 use Rattle.uslp_kinds.specs.declared.BypassSequenceControlFlag.TheVariants.{SequenceControlledQoS}
 use Rattle.uslp_kinds.specs.declared.ProtocolControlCommandFlag.TheVariants.{TfdfContainsUserData}
 use Rattle.uslp_primary_header.specs.declared.PrimaryHeader.{PrimaryHeader}
-use Rattle.uslp_primary_header.specs.declared.HeaderAnswer.{HeaderAnswer}
-use Rattle.uslp_primary_header.specs.declared.HeaderAnswer.TheVariants as header_answer
-
-abbrev pub paper_header : HeaderAnswer → Outcome PrimaryHeader
-paper_header (header_answer.Done h) = done h
-paper_header (header_answer.Refused r) = refusal r
 
 abbrev pub flag : Bool → ℕ
 flag true = 1

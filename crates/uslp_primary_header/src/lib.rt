@@ -1,10 +1,10 @@
 // The primary header of a frame: a value, whose methods take it and hand back a new one.
 #![tactic(auto)]
 
-ghost use Rattle.std.specs.Prelude.{◌≡◌, ◌-◌, ◌≤◌};
-ghost use Rattle.uslp_primary_header.specs.Header.{paper_header, len_header, len_frame, header_making, count_setting, length_setting, same_but_width};
+ghost use Rattle.std.specs.Prelude.{◌≡◌};
+ghost use Rattle.uslp_primary_header.specs.Header.{len_header, len_frame, header_making, count_setting, length_setting};
+ghost use Rattle.uslp_kinds.specs.Answers.{paper};
 
-use fixed::bit_of;
 use uslp_kinds::{
     BypassSequenceControlFlag, MAX_COUNT_LEN, MAX_FRAME_LEN, MAX_MAP_ID, MAX_VC_ID,
     ProtocolControlCommandFlag, Refusal, SourceOrDestField,
@@ -20,7 +20,9 @@ pub const USLP_VERSION_NUMBER: u8 = 12;
 // The octets before the count.
 pub const FIXED_LEN: usize = 7;
 
-#[derive(Clone, Copy)]
+// Equal in every field but the width of the count, as in the Rust.
+#[derive(Clone, Copy, Debug)]
+#[derive_where(PartialEq, Eq)]
 pub struct PrimaryHeader {
     pub spacecraft_id: u16,
     pub source_or_dest_field: SourceOrDestField,
@@ -31,14 +33,9 @@ pub struct PrimaryHeader {
     pub sequence_control_flag: BypassSequenceControlFlag,
     pub protocol_control_command_flag: ProtocolControlCommandFlag,
     pub ocf_flag: bool,
+    #[derive_where(skip(EqHashOrd))]
     pub vc_frame_count_len: u8,
     pub vc_frame_count: u64,
-}
-
-#[derive(Clone, Copy)]
-pub enum HeaderAnswer {
-    Done(PrimaryHeader),
-    Refused(Refusal),
 }
 
 impl PrimaryHeader {
@@ -50,21 +47,18 @@ impl PrimaryHeader {
         vc_id: u8,
         map_id: u8,
         frame_len: u16,
-    ) -> HeaderAnswer
-        ensures { paper_header result ≡ header_making spacecraft_id source_or_dest_field vc_id map_id frame_len }
+    ) -> Result<PrimaryHeader, Refusal>
+        ensures { paper result ≡ header_making spacecraft_id source_or_dest_field vc_id map_id frame_len }
     {
-        if vc_id > MAX_VC_ID {
-            return HeaderAnswer::Refused(Refusal::BadField);
+        if vc_id > MAX_VC_ID || map_id > MAX_MAP_ID {
+            return Err(Refusal::BadField);
         }
-        if map_id > MAX_MAP_ID {
-            return HeaderAnswer::Refused(Refusal::BadField);
-        }
-        HeaderAnswer::Done(PrimaryHeader {
+        Ok(PrimaryHeader {
             spacecraft_id,
             source_or_dest_field,
             vc_id,
             map_id,
-            frame_len_field: less_one(frame_len),
+            frame_len_field: frame_len.saturating_sub(1),
             sequence_control_flag: BypassSequenceControlFlag::SequenceControlledQoS,
             protocol_control_command_flag: ProtocolControlCommandFlag::TfdfContainsUserData,
             ocf_flag: false,
@@ -75,35 +69,38 @@ impl PrimaryHeader {
 
     // The header with this count. Refuses BAD_FIELD for the width, then BAD_COUNT.
     #[tactic(auto, unfolding(crate::specs::Header::count_setting))]
-    pub fn with_vc_frame_count(self, count_len: u8, count: u64) -> HeaderAnswer
-        ensures { paper_header result ≡ count_setting self count_len count }
+    pub fn with_vc_frame_count(self, count_len: u8, count: u64) -> Result<PrimaryHeader, Refusal>
+        ensures { paper result ≡ count_setting self count_len count }
     {
         if count_len > MAX_COUNT_LEN {
-            return HeaderAnswer::Refused(Refusal::BadField);
+            return Err(Refusal::BadField);
         }
         if count_bad(count_len, count) {
-            return HeaderAnswer::Refused(Refusal::BadCount {
+            return Err(Refusal::BadCount {
                 count,
                 width: count_len,
             });
         }
-        let mut header = self;
-        header.vc_frame_count_len = count_len;
-        header.vc_frame_count = count;
-        HeaderAnswer::Done(header)
+        Ok(PrimaryHeader {
+            vc_frame_count_len: count_len,
+            vc_frame_count: count,
+            ..self
+        })
     }
 
     // The header with this total of octets, which it keeps less one. Refuses TOO_LONG.
     #[tactic(auto, unfolding(crate::specs::Header::length_setting))]
-    pub fn with_frame_len(self, frame_len: usize) -> HeaderAnswer
-        ensures { paper_header result ≡ length_setting self frame_len }
+    pub fn with_frame_len(self, frame_len: usize) -> Result<PrimaryHeader, Refusal>
+        ensures { paper result ≡ length_setting self frame_len }
     {
         if frame_len > MAX_FRAME_LEN {
-            return HeaderAnswer::Refused(Refusal::TooLong);
+            return Err(Refusal::TooLong);
         }
-        let mut header = self;
-        header.frame_len_field = length_field(frame_len);
-        HeaderAnswer::Done(header)
+        // a length of 0 is kept as 1, as in the Rust
+        Ok(PrimaryHeader {
+            frame_len_field: frame_len.saturating_sub(1) as u16,
+            ..self
+        })
     }
 
     pub fn vc_frame_count(self) -> u64
@@ -128,44 +125,5 @@ impl PrimaryHeader {
         ensures { result ≡ len_frame self }
     {
         self.frame_len_field as usize + 1
-    }
-
-    // Equal in every field but the width of the count.
-    pub fn equals(self, other: PrimaryHeader) -> bool
-        ensures { result ≡ same_but_width self other }
-    {
-        let role = self.source_or_dest_field;
-        let other_role = other.source_or_dest_field;
-        let bypass = self.sequence_control_flag;
-        let other_bypass = other.sequence_control_flag;
-        let command = self.protocol_control_command_flag;
-        let other_command = other.protocol_control_command_flag;
-        (self.spacecraft_id == other.spacecraft_id)
-            & (role.number() == other_role.number())
-            & (self.vc_id == other.vc_id)
-            & (self.map_id == other.map_id)
-            & (self.frame_len_field == other.frame_len_field)
-            & (bypass.number() == other_bypass.number())
-            & (command.number() == other_command.number())
-            & (bit_of(self.ocf_flag) == bit_of(other.ocf_flag))
-            & (self.vc_frame_count == other.vc_frame_count)
-    }
-}
-
-// A length of 0 is kept as 1, as in the Rust.
-fn less_one(frame_len: u16) -> u16
-    ensures { result ≡ frame_len - 1 }
-{
-    if frame_len == 0 { 0 } else { frame_len - 1 }
-}
-
-fn length_field(frame_len: usize) -> u16
-    requires { frame_len ≤ 65536 }
-    ensures { result ≡ frame_len - 1 }
-{
-    if frame_len == 0 {
-        0
-    } else {
-        (frame_len - 1) as u16
     }
 }

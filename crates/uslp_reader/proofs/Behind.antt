@@ -15,7 +15,6 @@ use Rattle.uslp_checksum.specs.Checksum.{checksum_of}
 use Rattle.uslp_kinds.specs.Outcome.{Outcome, done, refused}
 use Rattle.uslp_kinds.specs.Answers.{short, lacking}
 use Rattle.uslp_kinds.specs.declared.ManagedParameters.{ManagedParameters}
-use Rattle.uslp_kinds.specs.declared.OperationalControlField.TheVariants.{Present}
 use Rattle.uslp_kinds.proofs.Behind.{Follows, length_row, same_row, same_end, follows_then}
 use Rattle.uslp_primary_header.specs.Header.{len_header, len_frame}
 use Rattle.uslp_primary_header.specs.declared.PrimaryHeader.{PrimaryHeader}
@@ -28,11 +27,12 @@ use Rattle.uslp_reader.specs.Reader.{ocf_at, frame_with, body_reading, frame_rea
 use Rattle.uslp_reader.specs.declared.TransferFrame.{TransferFrame}
 use Rattle.uslp_reader.proofs.Done.{read_done}
 use Rattle.uslp_reader.proofs.Paths.{contents_there}
+use Rattle.std.specs.Prelude.{Some}
 
 -- with both headers read, all that is looked at stands within the frame
 module _ (s t : List ℕ) (managed : ManagedParameters) (h : PrimaryHeader) (whole : len_frame h ≤ length s) (f : TransferFrameDataFieldHeader) where
   ocf_front : (b : Bool) (i : ℕ) → i + cond b 4 0 ≤ length s → ocf_at b i (s ++ t) ≡ ocf_at b i s
-  ocf_front true i h = ap Present (word_front s t i 4 h)
+  ocf_front true i h = ap Some (word_front s t i 4 h)
   ocf_front false i h = refl
 
   frame_front : needed h f managed ≤ len_frame h → frame_with h f (len_frame h - needed h f managed) (s ++ t) ≡ frame_with h f (len_frame h - needed h f managed) s

@@ -11,17 +11,14 @@ use Rattle.uslp_checksum.specs.Checksum.{checksum_of}
 use Rattle.uslp_kinds.specs.Outcome.{done, refused}
 use Rattle.uslp_kinds.proofs.Firsts.{first_up_to}
 use Rattle.uslp_kinds.proofs.Outcomes.{not_done, number_one, done_one, passed}
-use Rattle.uslp_kinds.proofs.Back.{back, refusal_back}
 use Rattle.uslp_kinds.specs.declared.ManagedParameters.{ManagedParameters}
 use Rattle.uslp_primary_header.specs.Header.{len_header, len_frame, header_reading}
 use Rattle.uslp_primary_header.proofs.RoundTrip as header_trip
 use Rattle.uslp_data_field_header.specs.Field.{field_reading}
 use Rattle.uslp_data_field_header.proofs.Reading as field_reading_mod
 use Rattle.uslp_layout.specs.Layout.{needed}
-use Rattle.uslp_reader.specs.Reader.{paper_frame, frame_with, stored_fecf, computed_fecf, frame_reading}
+use Rattle.uslp_reader.specs.Reader.{frame_with, stored_fecf, computed_fecf, frame_reading}
 use Rattle.uslp_reader.specs.declared.TransferFrame.{TransferFrame}
-use Rattle.uslp_reader.specs.declared.FrameAnswer.{FrameAnswer}
-use Rattle.uslp_reader.specs.declared.FrameAnswer.TheVariants as frame_answer
 use Rattle.uslp_reader.proofs.Paths.{Way, way, reading_header, reading_short, reading_field, reading_body, reading_done}
 use Rattle.uslp_reader.proofs.Paths.Way.{at_header, too_few, at_field, to_body}
 
@@ -83,7 +80,3 @@ module _ (s : List ℕ) (managed : ManagedParameters) {k : ℕ} {vs : List ℕ} 
 
   pub reading_up_to : k ≤ 7
   reading_up_to = by_number (way s)
-
-pub frame_back : (r : FrameAnswer) → back frame_answer.Done frame_answer.Refused (paper_frame r) ≡ r
-frame_back (frame_answer.Done x) = refl
-frame_back (frame_answer.Refused r) = ap frame_answer.Refused (refusal_back r)

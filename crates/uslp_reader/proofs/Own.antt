@@ -13,7 +13,6 @@ use Rattle.uslp_octets.proofs.Laws.{are_drop, word_take}
 use Rattle.uslp_checksum.specs.Checksum.{checksum_of}
 use Rattle.uslp_kinds.specs.Outcome.{done}
 use Rattle.uslp_kinds.specs.declared.ManagedParameters.{ManagedParameters}
-use Rattle.uslp_kinds.specs.declared.OperationalControlField.TheVariants.{Present}
 use Rattle.uslp_primary_header.specs.Header.{table, len_header, len_frame, spare_in, header_reading}
 use Rattle.uslp_primary_header.specs.declared.PrimaryHeader.{PrimaryHeader}
 use Rattle.uslp_primary_header.proofs.RoundTrip as header_trip
@@ -24,6 +23,7 @@ use Rattle.uslp_layout.specs.Layout.{data_start, needed}
 use Rattle.uslp_reader.specs.Reader.{ocf_at, frame_with, frame_reading}
 use Rattle.uslp_reader.specs.declared.TransferFrame.{TransferFrame}
 use Rattle.uslp_reader.proofs.Done.{ReadDone, read_done, done_reads}
+use Rattle.std.specs.Prelude.{Some}
 
 -- the front of octets, by a part that ends before it does
 front_of : (n l : ℕ) (s : List ℕ) {p : List ℕ} → l ≤ n → take l s ≡ p → take n s ≡ p ++ take (n - l) (drop l s)
@@ -32,7 +32,7 @@ front_of n l s h e =
     ap (λ (m : ℕ). take m s) k ∙ take-add l (n - l) s ∙ ap (λ (a : List ℕ). a ++ take (n - l) (drop l s)) e
 
 ocf_same : (b : Bool) (i n : ℕ) (s : List ℕ) → i + cond b 4 0 ≤ n → ocf_at b i s ≡ ocf_at b i (take n s)
-ocf_same true i n s h = ap Present (sym (word_take i 4 n s h))
+ocf_same true i n s h = ap Some (sym (word_take i 4 n s h))
 ocf_same false i n s h = refl
 
 module _ (s : List ℕ) (managed : ManagedParameters) (x : TransferFrame) (oct : AreOctets s) (e : frame_reading s managed ≡ done x) where

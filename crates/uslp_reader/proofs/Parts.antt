@@ -8,10 +8,10 @@ use native.Mathlib.Omega.{arith}
 use lib.ListN.{length, take, drop, get_or, length-drop}
 use lib.Seq.{take_all}
 use Rattle.uslp_octets.specs.Octets.{word}
-use Rattle.uslp_kinds.specs.declared.OperationalControlField.TheVariants.{Present}
 use Rattle.uslp_layout.specs.Layout.{data_start}
 use Rattle.uslp_reader.specs.Reader.{ocf_at, frame_with}
 use Rattle.uslp_reader.specs.declared.TransferFrame.{TransferFrame}
+use Rattle.std.specs.Prelude.{Some}
 
 first_at : (s : List ℕ) (i : ℕ) → get_or s (i + 0) 0 ≡ get_or s i 0
 first_at s i = ap (λ (j : ℕ). get_or s j 0) (add-zero i)
@@ -21,10 +21,10 @@ module _ (flag : Bool) (i : ℕ) (s : List ℕ) (on : flag ≡ true) where
   pub ocf_room : i + cond flag 4 0 ≤ length s → i + 4 ≤ length s
   ocf_room h = rw on at h
 
-  pub ocf_there : (n : ℕ) → n ≡ ((get_or s i 0 * 256 + get_or s (i + 1) 0) * 256 + get_or s (i + 2) 0) * 256 + get_or s (i + 3) 0 → Present n ≡ ocf_at flag i s
+  pub ocf_there : (n : ℕ) → n ≡ ((get_or s i 0 * 256 + get_or s (i + 1) 0) * 256 + get_or s (i + 2) 0) * 256 + get_or s (i + 3) 0 → Some n ≡ ocf_at flag i s
   ocf_there n e =
       let w : n ≡ word i 4 s = omega (arith, e, first_at s i) in
-      simp on (ap Present w)
+      simp on (ap Some w)
 
 -- the frame by its parts
 pub frame_eq : (x : TransferFrame) (s : List ℕ) → x.data_start ≡ data_start x.primary_header x.data_field_header

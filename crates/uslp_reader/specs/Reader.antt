@@ -1,28 +1,19 @@
 -- Reading a frame (docs/RULES.md, section 5): what stands in the octets, and what the reader answers, in its order.
-use Rattle.std.specs.Prelude.{ℕ, ◌+◌, ◌-◌, Bool, not, cond, ◌&&◌, List, [], ◌∷◌, length, take, drop, ltb, eqb}
+use Rattle.std.specs.Prelude.{ℕ, ◌+◌, ◌-◌, Bool, not, cond, ◌&&◌, List, [], ◌∷◌, length, take, drop, ltb, eqb, Option, Some, None}
 use Rattle.uslp_octets.specs.Octets.{word, part_in, part_at}
 use Rattle.uslp_checksum.specs.Checksum.{checksum_of}
 use Rattle.uslp_kinds.specs.Outcome.{Outcome, done, refused, and_then, first_of}
-use Rattle.uslp_kinds.specs.Answers.{refusal}
 use Rattle.uslp_kinds.specs.declared.ManagedParameters.{ManagedParameters}
-use Rattle.uslp_kinds.specs.declared.OperationalControlField.{OperationalControlField}
-use Rattle.uslp_kinds.specs.declared.OperationalControlField.TheVariants.{Absent, Present}
 use Rattle.uslp_primary_header.specs.Header.{len_header, len_frame, header_reading}
 use Rattle.uslp_primary_header.specs.declared.PrimaryHeader.{PrimaryHeader}
 use Rattle.uslp_data_field_header.specs.Field.{field_reading}
 use Rattle.uslp_data_field_header.specs.declared.TransferFrameDataFieldHeader.{TransferFrameDataFieldHeader}
 use Rattle.uslp_layout.specs.Layout.{data_start, needed}
 use Rattle.uslp_reader.specs.declared.TransferFrame.{TransferFrame}
-use Rattle.uslp_reader.specs.declared.FrameAnswer.{FrameAnswer}
-use Rattle.uslp_reader.specs.declared.FrameAnswer.TheVariants as frame_answer
-
-abbrev pub paper_frame : FrameAnswer → Outcome TransferFrame
-paper_frame (frame_answer.Done x) = done x
-paper_frame (frame_answer.Refused r) = refusal r
 
 -- the OCF, if its flag is set, stands behind the data
-abbrev pub ocf_at : Bool → ℕ → List ℕ → OperationalControlField
-ocf_at flag i s = cond flag (Present (word i 4 s)) Absent
+abbrev pub ocf_at : Bool → ℕ → List ℕ → Option ℕ
+ocf_at flag i s = cond flag (Some (word i 4 s)) None
 
 -- the frame that stands in the octets with n octets of data
 abbrev pub frame_with : PrimaryHeader → TransferFrameDataFieldHeader → ℕ → List ℕ → TransferFrame

@@ -8,3 +8,5 @@ pub mod Slots
 pub mod Ways
 pub mod Keeps
 pub mod Sums
+pub mod Equality
+pub mod Found

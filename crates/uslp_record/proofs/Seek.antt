@@ -1,11 +1,13 @@
 -- Laws of the search over eight slots, for whichever slot is sought.
-use Rattle.std.proofs.Common.{◌≡◌, ℕ, suc, ◌+◌, ◌<◌, ◌≤◌, Bool, true, false, cond, eqb, List, [], ◌∷◌, length, get_or, drop, sym, refl, ap, ◌∙◌, add-one, arith, drop_of_length-le, drop-cons, eq-eqb, ne_eqb}
-use Rattle.uslp_kinds.specs.Kinds.{bypass_number}
+use Rattle.std.proofs.Common.{◌≡◌, ℕ, zero, suc, ◌<◌, Bool, true, false, cond, List, [], ◌∷◌, Option, Some, None, length, get_or, sym, refl, ap, arith}
 use mir.Val.{Val}
 use denote.Laws.{Is}
 use denote.Struct.Declared.{row}
 use Rattle.uslp_record.specs.contracts.ChannelRecord as record_type
-use Rattle.uslp_record.specs.Slots.{same_channel, holds, is_closed, find, vacant}
+use Rattle.uslp_record.specs.Slots.{holds, is_closed, find, vacant, slot_of, slot_found, FoundFirst}
+use Rattle.uslp_record.specs.declared.SlotState.{SlotState}
+use Rattle.uslp_record.specs.declared.SlotState.TheVariants.{Closed}
+use Rattle.uslp_record.proofs.Found.{found_here, found_nowhere}
 use Rattle.uslp_record.specs.declared.Channel.{Channel}
 use Rattle.uslp_record.specs.declared.Slot.{Slot}
 use Rattle.uslp_record.specs.declared.ChannelRecord.{ChannelRecord}
@@ -27,29 +29,26 @@ pub vacates : Seeks is_closed vacant
 unfolding vacant
 vacates = record { none = refl; more = λ x l. refl }
 
-module _ (test : Slot → Bool) (f : List Slot → ℕ) (seeks : Seeks test f) (l : List Slot) (i : ℕ) (long : length l ≡ 8) (inv : f l ≡ i + f (drop i l)) where
-  pub seek_end : 8 ≤ i → i ≡ f l
-  seek_end h = omega (arith, ap f (drop_of_length-le l {i = i} (omega arith)) ∙ seeks.none)
+-- a place that passes after none that did is where f finds it; where none passes, f finds none
+module _ (test : Slot → Bool) (f : List Slot → ℕ) (seeks : Seeks test f) where
+  sought : (l : List Slot) (i : ℕ) (d : Slot) → i < length l → test (get_or l i d) ≡ true
+      → ((j : ℕ) → j < i → test (get_or l j d) ≡ false) → i ≡ f l
+  sought [] i d h e n = absurd (omega arith)
+  sought (x ∷ l) zero d h e n = rw (seeks.more x l, e) refl
+  sought (x ∷ l) (suc i) d h e n =
+      rw (seeks.more x l, n 0 (omega arith)) (ap suc (sought l i d (omega arith) e (λ j k. n (suc j) (omega arith))))
 
-  module _ (d : Slot) (b : Bool) (low : i < 8) (is : b ≡ test (get_or l i d)) where
-    seek_at : (x : Bool) → b ≡ x → f (drop i l) ≡ cond x 0 (suc (f (drop (i + 1) l)))
-    seek_at x e =
-        ap f (drop-cons l i d (omega arith) ∙ ap (λ (n : ℕ). get_or l i d ∷ drop n l) (sym (add-one i)))
-        ∙ seeks.more (get_or l i d) (drop (i + 1) l) ∙ ap (λ (z : Bool). cond z 0 (suc (f (drop (i + 1) l)))) (sym is ∙ e)
+  unsought : (l : List Slot) (d : Slot) → ((j : ℕ) → j < length l → test (get_or l j d) ≡ false) → length l ≡ f l
+  unsought [] d n = sym seeks.none
+  unsought (x ∷ l) d n = rw (seeks.more x l, n 0 (omega arith)) (ap suc (unsought l d (λ j k. n (suc j) (omega arith))))
 
-    pub seek_hit : b ≡ true → i ≡ f l
-    seek_hit e = omega (arith, seek_at true e)
-
-    pub seek_on : b ≡ false → f l ≡ i + 1 + f (drop (i + 1) l)
-    seek_on e = omega (arith, seek_at false e)
-
-module _ (a b : Channel) where
-  pub same_not : (a.spacecraft_id ≡ b.spacecraft_id → ⊥) → false ≡ same_channel a b
-  same_not h = simp (ne_eqb a.spacecraft_id b.spacecraft_id h)
-
-  module _ (h : a.spacecraft_id ≡ b.spacecraft_id) where
-    pub same_craft : (a.vc_id ≡ b.vc_id → ⊥) → false ≡ same_channel a b
-    same_craft g = simp (eq-eqb a.spacecraft_id b.spacecraft_id h, ne_eqb a.vc_id b.vc_id g)
-
-    pub same_flag : a.vc_id ≡ b.vc_id → eqb (bypass_number a.sequence_control_flag) (bypass_number b.sequence_control_flag) ≡ same_channel a b
-    same_flag g = simp (eq-eqb a.spacecraft_id b.spacecraft_id h, eq-eqb a.vc_id b.vc_id g)
+  -- so a search whose test says of each slot what `test` does finds what f finds
+  pub found_first : (Says : SlotState → Bool → Type 0) (r : ChannelRecord) {vs : List Val} → Is (row record_type.the_type) r vs → (o : Option ℕ)
+      → FoundFirst Says r o → ((x : Slot) (b : Bool) → Says x.state b → b ≡ test x) → o ≡ slot_found (f r.slots)
+  unfolding FoundFirst
+  found_first Says r h (Some i) e says =
+      found_here (f r.slots) i
+      (sought r.slots i (slot_of Closed) (omega (arith, eight_slots r h)) (sym (says _ _ e.1)) (λ j k. sym (says _ _ (e.2 j k)))) e.0
+  found_first Says r h None e says =
+      let n = λ (j : ℕ) (k : j < length r.slots). sym (says _ _ (e j (omega (arith, eight_slots r h)))) in
+      found_nowhere (f r.slots) (omega (arith, unsought r.slots (slot_of Closed) n, eight_slots r h))

@@ -1,5 +1,5 @@
 -- Laws of the console total: what the loop has summed of the slots that it passed.
-use Rattle.std.proofs.Common.{◌≡◌, ℕ, ◌+◌, ◌*◌, ◌<◌, ◌≤◌, Bool, false, ◌||◌, ltb, List, [], length, get_or, drop, sym, refl, ap, ◌∙◌, add-one, arith, drop_of_length-le, drop-cons, le-ltb, lt-ltb}
+use Rattle.std.proofs.Common.{◌≡◌, ℕ, ◌+◌, ◌*◌, ◌<◌, ◌≤◌, Bool, false, ◌||◌, ltb, List, [], length, get_or, drop, sym, ap, ◌∙◌, add-one, arith, drop_of_length-le, drop-cons, le-ltb, lt-ltb}
 use Rattle.uslp_kinds.specs.Outcome.{done, refused}
 use Rattle.uslp_record.specs.Record.{most, missing_of, missing_in, too_much_in, console_total}
 use Rattle.uslp_record.specs.declared.Slot.{Slot}
@@ -11,9 +11,6 @@ pub record Tallied (l : List Slot) (i sum : ℕ) : Type 0 where
   pub small : sum ≤ i * most
   pub sums : missing_in l ≡ sum + missing_in (drop i l)
   pub fits : too_much_in l ≡ too_much_in (drop i l)
-
-pub tallied_none : (l : List Slot) → Tallied l 0 0
-tallied_none l = record { within = omega arith; small = omega arith; sums = omega arith; fits = refl }
 
 missing_at : (l : List Slot) (i : ℕ) (d : Slot) → i < length l → missing_in (drop i l) ≡ missing_of (get_or l i d).state + missing_in (drop (i + 1) l)
 unfolding missing_in

@@ -2,7 +2,6 @@
 use Rattle.std.specs.Prelude.{ℕ, ◌+◌, ◌-◌, ◌/◌, ◌%◌, ◌^◌, Bool, cond, not, ◌||◌, List, [], ◌∷◌, ◌++◌, ◌==◌, nat_le, nat_lt}
 use Rattle.uslp_kinds.specs.Outcome.{Outcome, done, refused, first_of}
 use Rattle.uslp_kinds.specs.Kinds.{count_bad}
-use Rattle.uslp_kinds.specs.Answers.{refusal}
 use Rattle.uslp_record.specs.Slots.{find, slot_of, state_at, Change}
 use Rattle.uslp_record.specs.Record.{Kept, applied, most}
 use Rattle.uslp_record.specs.declared.Channel.{Channel}
@@ -12,19 +11,7 @@ use Rattle.uslp_record.specs.declared.SlotState.TheVariants.{Closed, Opened, Hea
 use Rattle.uslp_record.specs.declared.ChannelRecord.{ChannelRecord}
 use Rattle.uslp_record.specs.declared.Arrival.{Arrival}
 use Rattle.uslp_record.specs.declared.Arrival.TheVariants.{New, Repeat, Late}
-use Rattle.uslp_record.specs.declared.ArrivalAnswer.{ArrivalAnswer}
-use Rattle.uslp_record.specs.declared.ArrivalAnswer.TheVariants as arrival_answer
 use Rattle.uslp_record.specs.declared.Slot.{Slot}
-use Rattle.uslp_record.specs.declared.SlotAnswer.{SlotAnswer}
-use Rattle.uslp_record.specs.declared.SlotAnswer.TheVariants as slot_answer
-
-abbrev pub paper_arrival : ArrivalAnswer → Outcome Arrival
-paper_arrival (arrival_answer.Done arrival) = done arrival
-paper_arrival (arrival_answer.Refused r) = refusal r
-
-abbrev pub paper_slot : SlotAnswer → Outcome (Arrival × Slot)
-paper_slot (slot_answer.Done arrival slot) = done (arrival, slot)
-paper_slot (slot_answer.Refused r) = refusal r
 
 -- new count less last by wrapping subtraction, reduced to the width
 abbrev pub ahead : ℕ → ℕ → ℕ → ℕ

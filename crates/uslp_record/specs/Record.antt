@@ -1,17 +1,12 @@
 -- Opening, closing and asking (docs/RULES.md, sections 6.2 and 6.4): what each call answers and the record that it leaves, in its order.
 use Rattle.std.specs.Prelude.{ℕ, ◌+◌, ◌-◌, ◌^◌, Bool, false, ◌||◌, List, [], ◌∷◌, ◌==◌, nat_le, nat_lt}
 use Rattle.uslp_kinds.specs.Outcome.{Outcome, done, refused, first_of}
-use Rattle.uslp_kinds.specs.Answers.{refusal}
 use Rattle.uslp_record.specs.Slots.{find, vacant, state_at, Change, changed}
 use Rattle.uslp_record.specs.declared.Channel.{Channel}
 use Rattle.uslp_record.specs.declared.SlotState.{SlotState}
 use Rattle.uslp_record.specs.declared.SlotState.TheVariants.{Closed, Opened, Heard}
 use Rattle.uslp_record.specs.declared.Slot.{Slot}
 use Rattle.uslp_record.specs.declared.ChannelRecord.{ChannelRecord}
-use Rattle.uslp_record.specs.declared.StateAnswer.{StateAnswer}
-use Rattle.uslp_record.specs.declared.StateAnswer.TheVariants as state_answer
-use Rattle.uslp_record.specs.declared.TotalAnswer.{TotalAnswer}
-use Rattle.uslp_record.specs.declared.TotalAnswer.TheVariants as total_answer
 
 -- what a call leaves: its answer, and the record
 pub data Kept (A : Type 0) : Type 0 where
@@ -21,14 +16,6 @@ pub data Kept (A : Type 0) : Type 0 where
 abbrev pub applied : {A : Type 0} → ChannelRecord → Outcome (A × Change) → Kept A
 applied r (done x) = keeping (done x.0) (changed r x.1)
 applied r (refused k vs) = keeping (refused k vs) r
-
-abbrev pub paper_total : TotalAnswer → Outcome ℕ
-paper_total (total_answer.Done n) = done n
-paper_total (total_answer.Refused r) = refusal r
-
-abbrev pub paper_state : StateAnswer → Outcome SlotState
-paper_state (state_answer.Done t) = done t
-paper_state (state_answer.Refused r) = refusal r
 
 -- opening: 10, 15, 16; the first closed slot is taken
 unfoldable pub opening : ChannelRecord → Channel → ℕ → Kept (Unit {0})

@@ -1,5 +1,5 @@
 -- Eight slots (docs/RULES.md, section 6.1): which of them holds a channel, which is closed, and the record with a slot replaced.
-use Rattle.std.specs.Prelude.{ℕ, suc, Bool, true, false, cond, ◌&&◌, List, [], ◌∷◌, replicate, ◌==◌, slice_index_or, slice_set}
+use Rattle.std.specs.Prelude.{ℕ, suc, ◌<◌, Bool, true, false, cond, ◌&&◌, List, [], ◌∷◌, Option, Some, None, replicate, ◌==◌, nat_lt, slice_index_or, slice_set}
 use Rattle.uslp_kinds.specs.Kinds.{bypass_number}
 use Rattle.uslp_record.specs.declared.Channel.{Channel}
 use Rattle.uslp_record.specs.declared.SlotState.{SlotState}
@@ -34,6 +34,10 @@ unfoldable pub find : Channel → List Slot → ℕ
 find k [] = 0
 find k (x ∷ l) = cond (holds k x) 0 (suc (find k l))
 
+-- the slot, or none where there is no such
+abbrev pub slot_found : ℕ → Option ℕ
+slot_found k = cond (nat_lt k 8) (Some k) None
+
 -- the first closed slot, or how many there are
 unfoldable pub vacant : List Slot → ℕ
 vacant [] = 0
@@ -49,6 +53,11 @@ state_at r i = (slice_index_or r.slots i (slot_of Closed)).state
 -- the record with another state in a slot
 abbrev pub put : ChannelRecord → ℕ → SlotState → ChannelRecord
 put r i t = record { slots = slice_set r.slots i (slot_of t) }
+
+-- the first slot whose state passes a test, or none, by what the test says of each state
+unfoldable pub FoundFirst : (SlotState → Bool → Type 0) → ChannelRecord → Option ℕ → Type 0
+FoundFirst Says r (Some i) = (i < 8) × Says (state_at r i) true × ((j : ℕ) → j < i → Says (state_at r j) false)
+FoundFirst Says r None = (j : ℕ) → j < 8 → Says (state_at r j) false
 
 -- a slot, and the state that it is to get
 pub record Change : Type 0 where

@@ -1,241 +1,187 @@
 // Hearing a frame of a channel, as numbers.
-ghost use Rattle.std.specs.Prelude.{◌≡◌, ◌+◌, ◌^◌, ◌<◌, ◌≤◌, false};
+ghost use Rattle.std.specs.Prelude.{◌≡◌, ◌<◌, ◌≤◌, ◌^◌, ◌∷◌, [], MatchResult};
+ghost use Rattle.uslp_kinds.specs.Outcome.{done, refused, first_of};
+ghost use Rattle.uslp_kinds.specs.Answers.{paper, refusal};
 ghost use Rattle.uslp_record.specs.Record.{keeping};
-ghost use Rattle.uslp_record.specs.Judging.{paper_arrival, paper_slot, ahead, arrival_of, totals_after, first_totals, overfull, arrival_at, totals_at, width_at, count_hearing, slot_judging};
+ghost use Rattle.uslp_record.specs.Judging.{ahead, arrival_of, totals_after, first_totals, overfull, arrival_at, totals_at, width_at, count_checks, slot_checks, count_hearing, slot_judging};
 
-use crate::{
-    Arrival, ArrivalAnswer, Channel, ChannelRecord, CountHearing, MOST, SLOTS, Slot, SlotAnswer,
-    SlotState, Totals, search,
-};
+use crate::{Arrival, Channel, ChannelRecord, MOST, Recorded, Slot, SlotState, Totals};
 use uslp_kinds::{MAX_COUNT_LEN, Refusal};
 
 impl ChannelRecord {
     // Hears a frame of this channel, width and count. Refuses BAD_FIELD for a width that no frame has, BAD_COUNT for a count
     // that does not fit it, NOT_OPEN, OTHER_WIDTH, TOTAL_FULL.
-    pub fn hear_count(self, channel: Channel, width: u8, count: u64) -> CountHearing
-        ensures { keeping (paper_arrival result.answer) result.next ≡ count_hearing self channel width count }
+    #[tactic(auto, unfolding(crate::specs::Judging::judging, crate::specs::Judging::slot_judging))]
+    pub fn hear_count(self, channel: Channel, width: u8, count: u64) -> Recorded<Arrival>
+        ensures { keeping (paper result.answer) result.next ≡ count_hearing self channel width count }
     {
-        if width > MAX_COUNT_LEN {
-            return unheard(self, Refusal::BadField);
+        if let Err(refusal) = Width::of_count(width, count) {
+            return Recorded::refused(self, refusal);
         }
-        if count >= counts(width) {
-            return unheard(self, Refusal::BadCount { count, width });
-        }
-        let at = search(self, channel);
-        if at >= SLOTS {
-            return unheard(self, Refusal::NotOpen);
-        }
+        let Some(at) = self.search(channel) else {
+            return Recorded::refused(self, Refusal::NotOpen);
+        };
         let mut next = self;
-        let found = next.slots[at];
-        match found.judge_count(channel, width, count) {
-            SlotAnswer::Done { arrival, slot } => {
+        match next.slots[at].judge_count(channel, width, count) {
+            Ok((arrival, slot)) => {
                 next.slots[at] = slot;
-                CountHearing {
-                    answer: ArrivalAnswer::Done(arrival),
+                Recorded {
+                    answer: Ok(arrival),
                     next,
                 }
             }
-            SlotAnswer::Refused(refusal) => unheard(self, refusal),
+            Err(refusal) => Recorded::refused(self, refusal),
         }
-    }
-}
-
-fn unheard(channels: ChannelRecord, refusal: Refusal) -> CountHearing
-    ensures { result ≡ record { answer = ArrivalAnswer.Refused refusal; next = channels } }
-{
-    CountHearing {
-        answer: ArrivalAnswer::Refused(refusal),
-        next: channels,
     }
 }
 
 impl Slot {
     // The same for whoever holds the slot that the search found: a caller who replaces it copies no record.
     // Refuses BAD_FIELD, BAD_COUNT, OTHER_WIDTH, TOTAL_FULL.
-    pub fn judge_count(self, channel: Channel, width: u8, count: u64) -> SlotAnswer
-        ensures { paper_slot result ≡ slot_judging self channel width count }
+    #[tactic(auto, unfolding(crate::specs::Judging::slot_judging), using(uslp_kinds::proofs::Back::passed_on))]
+    pub fn judge_count(
+        self,
+        channel: Channel,
+        width: u8,
+        count: u64,
+    ) -> Result<(Arrival, Slot), Refusal>
+        ensures { paper result ≡ slot_judging self channel width count }
     {
-        if width > MAX_COUNT_LEN {
-            return SlotAnswer::Refused(Refusal::BadField);
-        }
-        if count >= counts(width) {
-            return SlotAnswer::Refused(Refusal::BadCount { count, width });
-        }
-        let state = self.state;
-        let opened = width_of(state);
-        if width != opened {
-            return SlotAnswer::Refused(Refusal::OtherWidth {
-                frame: width,
-                opened,
-            });
-        }
-        let step = step_of(state, count);
-        if step.full {
-            return SlotAnswer::Refused(Refusal::TotalFull);
-        }
-        let arrival = step.arrival;
-        let totals = step.totals;
-        let heard = SlotState::Heard {
+        let fitting = Width::of_count(width, count)?;
+        let (arrival, totals) = self.state.step(fitting, count)?;
+        let state = SlotState::Heard {
             channel,
             width,
             totals,
         };
-        SlotAnswer::Done {
-            arrival,
-            slot: Slot { state: heard },
-        }
+        Ok((arrival, Slot { state }))
     }
 }
 
-// What a frame is to a channel, with the totals after it; where one of them is full, those are of no use.
+// How many octets a count has: so few that all its counts are a number of 64 bits.
 #[derive(Clone, Copy)]
-struct Step {
-    full: bool,
-    arrival: Arrival,
-    totals: Totals,
+struct Width {
+    octets: u8,
+    ghost narrow: { octets ≤ 7 },
 }
 
-fn width_of(state: SlotState) -> u8
-    ensures { result ≡ width_at state }
-{
-    match state {
-        SlotState::Closed => 0,
-        SlotState::Opened { channel: _, width } => width,
-        SlotState::Heard {
-            channel: _,
-            width,
-            totals: _,
-        } => width,
+impl Width {
+    // The width of this count. Refuses BAD_FIELD, and BAD_COUNT for a count that does not fit it.
+    fn of_count(octets: u8, count: u64) -> Result<Width, Refusal>
+        ensures { MatchResult result
+            (λ width. (width.octets ≡ octets) × (count < 256 ^ octets))
+            (λ e. refusal e ≡ first_of (count_checks octets count) (done octets)) }
+    {
+        if octets > MAX_COUNT_LEN {
+            return Err(Refusal::BadField);
+        }
+        let width = Width { octets };
+        if count >= width.counts() {
+            return Err(Refusal::BadCount {
+                count,
+                width: octets,
+            });
+        }
+        Ok(width)
+    }
+
+    // How many counts it has.
+    #[tactic(auto, using(crate::proofs::Count::counts_shift))]
+    fn counts(self) -> u64
+        ensures { result ≡ 256 ^ self.octets }
+    {
+        1 << (8 * self.octets)
+    }
+
+    // New count less last by wrapping subtraction, reduced to the width.
+    #[tactic(auto, using(crate::proofs::Count::counts_positive, crate::proofs::Count::ahead_is))]
+    fn ahead(self, count: u64, last: u64) -> u64
+        ensures { result ≡ ahead self.octets count last }
+    {
+        count.wrapping_sub(last) % self.counts()
+    }
+
+    fn arrival(self, d: u64) -> Arrival
+        ensures { result ≡ arrival_of self.octets d }
+    {
+        if d == 0 {
+            return Arrival::Repeat;
+        }
+        if d <= self.counts() / 2 {
+            return Arrival::New(d - 1);
+        }
+        Arrival::Late
     }
 }
 
-fn step_of(state: SlotState, count: u64) -> Step
-    requires { width_at state ≤ 7 }
-    ensures { (result.full ≡ overfull (totals_at state count))
-        × (result.arrival ≡ arrival_at state count)
-        × (result.full ≡ false → result.totals ≡ totals_at state count) }
-{
-    match state {
-        SlotState::Closed => first(count),
-        SlotState::Opened {
-            channel: _,
-            width: _,
-        } => first(count),
-        SlotState::Heard {
-            channel: _,
-            width,
-            totals,
-        } => {
-            let d = difference(width, count, totals.last);
-            let arrival = arrival_of(width, d);
-            later(arrival, count, totals)
+impl SlotState {
+    fn width(self) -> u8
+        ensures { result ≡ width_at self }
+    {
+        match self {
+            SlotState::Closed => 0,
+            SlotState::Opened { width, .. } | SlotState::Heard { width, .. } => width,
         }
     }
-}
 
-fn first(count: u64) -> Step
-    ensures { (result.full ≡ false) × (result.arrival ≡ Arrival.New 0) × (result.totals ≡ first_totals count) }
-{
-    let totals = Totals {
-        last: count,
-        handed_on: 1,
-        missing: 0,
-        repeats: 0,
-        late: 0,
-    };
-    Step {
-        full: false,
-        arrival: Arrival::New(0),
-        totals,
-    }
-}
-
-// A frame of a channel that was heard before. Totals that stand too high are not added to, so that no sum wraps.
-fn later(arrival: Arrival, count: u64, totals: Totals) -> Step
-    requires { (totals_after arrival count totals).missing < totals.missing + 2 ^ 60 }
-    ensures { (result.full ≡ overfull (totals_after arrival count totals))
-        × (result.arrival ≡ arrival)
-        × (result.full ≡ false → result.totals ≡ totals_after arrival count totals) }
-{
-    if full(totals) {
-        return Step {
-            full: true,
-            arrival,
-            totals,
+    // What a frame of this width and count is to the channel, and the totals after it. Refuses OTHER_WIDTH, TOTAL_FULL.
+    fn step(self, width: Width, count: u64) -> Result<(Arrival, Totals), Refusal>
+        ensures { paper result ≡ first_of (slot_checks self width.octets count) (done (arrival_at self count, totals_at self count)) }
+    {
+        let frame = width.octets;
+        let opened = self.width();
+        if frame != opened {
+            return Err(Refusal::OtherWidth { frame, opened });
+        }
+        let SlotState::Heard { totals, .. } = self else {
+            return Ok((Arrival::New(0), Totals::first(count)));
         };
-    }
-    let next = counted(arrival, count, totals);
-    Step {
-        full: full(next),
-        arrival,
-        totals: next,
+        let arrival = width.arrival(width.ahead(count, totals.last));
+        Ok((arrival, totals.after(arrival, count)?))
     }
 }
 
-// New count less last by wrapping subtraction, reduced to the width.
-fn difference(width: u8, count: u64, last: u64) -> u64
-    requires { width ≤ 7 }
-    ensures { result ≡ ahead width count last }
-{
-    std::num::wrapping_sub_u64(count, last) % counts(width)
-}
-
-// How many counts a width has.
-fn counts(width: u8) -> u64
-    requires { width ≤ 7 }
-    ensures { result ≡ 256 ^ width }
-{
-    1 << (8 * width)
-}
-
-fn arrival_of(width: u8, d: u64) -> Arrival
-    requires { width ≤ 7 }
-    ensures { result ≡ arrival_of width d }
-{
-    if d == 0 {
-        return Arrival::Repeat;
-    }
-    if d <= counts(width) / 2 {
-        return Arrival::New(d - 1);
-    }
-    Arrival::Late
-}
-
-fn full(totals: Totals) -> bool
-    ensures { result ≡ overfull totals }
-{
-    if totals.handed_on > MOST {
-        return true;
-    }
-    if totals.missing > MOST {
-        return true;
-    }
-    if totals.repeats > MOST {
-        return true;
-    }
-    totals.late > MOST
-}
-
-// The totals after an arrival: they grew from totals that were not full, so no sum wraps.
-fn counted(arrival: Arrival, count: u64, totals: Totals) -> Totals
-    requires { (overfull totals ≡ false) × ((totals_after arrival count totals).missing < totals.missing + 2 ^ 60) }
-    ensures { result ≡ totals_after arrival count totals }
-{
-    let mut next = totals;
-    match arrival {
-        Arrival::New(gap) => {
-            next.last = count;
-            next.handed_on += 1;
-            next.missing += gap;
-            next
+impl Totals {
+    fn first(count: u64) -> Totals
+        ensures { result ≡ first_totals count }
+    {
+        Totals {
+            last: count,
+            handed_on: 1,
+            missing: 0,
+            repeats: 0,
+            late: 0,
         }
-        Arrival::Repeat => {
-            next.repeats += 1;
-            next
+    }
+
+    // Refuses TOTAL_FULL. A sum that would pass 64 bits stops short of it, which is too high all the same.
+    fn after(self, arrival: Arrival, count: u64) -> Result<Totals, Refusal>
+        ensures { paper result
+            ≡ first_of ((overfull (totals_after arrival count self), refused 17 []) ∷ []) (done (totals_after arrival count self)) }
+    {
+        let mut next = self;
+        match arrival {
+            Arrival::New(gap) => {
+                next.last = count;
+                next.handed_on = next.handed_on.saturating_add(1);
+                next.missing = next.missing.saturating_add(gap);
+            }
+            Arrival::Repeat => {
+                next.repeats = next.repeats.saturating_add(1);
+            }
+            Arrival::Late => {
+                next.late = next.late.saturating_add(1);
+            }
         }
-        Arrival::Late => {
-            next.late += 1;
-            next
+        if next.is_full() {
+            return Err(Refusal::TotalFull);
         }
+        Ok(next)
+    }
+
+    fn is_full(self) -> bool
+        ensures { result ≡ overfull self }
+    {
+        self.handed_on > MOST || self.missing > MOST || self.repeats > MOST || self.late > MOST
     }
 }

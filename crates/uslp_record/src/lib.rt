@@ -1,14 +1,15 @@
 // The channel record on numbers: eight slots by value, and what each call makes of them.
 #![tactic(auto)]
 
-ghost use Rattle.std.specs.Prelude.{◌≡◌, ◌<◌};
-ghost use Rattle.uslp_kinds.specs.Answers.{paper_done};
-ghost use Rattle.uslp_record.specs.Slots.{same_channel, state_holds, state_closed, find, vacant, put, empty_record};
-ghost use Rattle.uslp_record.specs.Record.{keeping, paper_total, missing_of, opening, closing, console_total, paper_state, showing};
+ghost use Rattle.std.specs.Prelude.{◌≡◌};
+ghost use Rattle.uslp_record.specs.Slots.{empty_record};
+ghost use Rattle.uslp_record.specs.Record.{keeping, opening, closing, console_total, showing};
+ghost use Rattle.uslp_kinds.specs.Answers.{paper};
 
-use uslp_kinds::{BypassSequenceControlFlag, DoneAnswer, MAX_COUNT_LEN, MAX_VC_ID, Refusal};
+use uslp_kinds::{BypassSequenceControlFlag, MAX_COUNT_LEN, MAX_VC_ID, Refusal};
 
 mod counting;
+mod searching;
 
 // How many channels a record holds.
 pub const SLOTS: usize = 8;
@@ -17,7 +18,7 @@ pub const SLOTS: usize = 8;
 pub const MOST: u64 = 0x0FFF_FFFF_FFFF_FFFF;
 
 // A spacecraft id with a channel number and the bypass flag: sequence-controlled and expedited frames are numbered apart.
-#[derive(Clone, Copy)]
+#[derive(Clone, Copy, Debug, PartialEq, Eq)]
 pub struct Channel {
     pub spacecraft_id: u16,
     pub vc_id: u8,
@@ -25,7 +26,7 @@ pub struct Channel {
 }
 
 // What a heard channel has counted; last is the count of its furthest frame.
-#[derive(Clone, Copy)]
+#[derive(Clone, Copy, Debug, PartialEq, Eq)]
 pub struct Totals {
     pub last: u64,
     pub handed_on: u64,
@@ -34,7 +35,7 @@ pub struct Totals {
     pub late: u64,
 }
 
-#[derive(Clone, Copy)]
+#[derive(Clone, Copy, Debug, PartialEq, Eq)]
 pub enum SlotState {
     Closed,
     Opened {
@@ -48,62 +49,41 @@ pub enum SlotState {
     },
 }
 
-#[derive(Clone, Copy)]
+#[derive(Clone, Copy, Debug, PartialEq, Eq)]
 pub struct Slot {
     pub state: SlotState,
 }
 
-#[derive(Clone, Copy)]
+#[derive(Clone, Copy, Debug, PartialEq, Eq)]
 pub struct ChannelRecord {
     pub slots: [Slot; SLOTS],
 }
 
-// An answer, and the record after the call.
-#[derive(Clone, Copy)]
-pub struct Recorded {
-    pub answer: DoneAnswer,
+// An answer, and the record after the call: on a refusal, the one that was given.
+#[derive(Clone, Copy, Debug)]
+pub struct Recorded<T> {
+    pub answer: Result<T, Refusal>,
     pub next: ChannelRecord,
 }
 
-#[derive(Clone, Copy)]
-pub enum TotalAnswer {
-    Done(u64),
-    Refused(Refusal),
-}
-
-// What a slot that holds a channel has.
-#[derive(Clone, Copy)]
-pub enum StateAnswer {
-    Done(SlotState),
-    Refused(Refusal),
+impl<T> Recorded<T> {
+    // The call was refused, and leaves the record.
+    pub fn refused(next: ChannelRecord, refusal: Refusal) -> Recorded<T>
+        ensures { result ≡ record { answer = Err refusal; next = next } }
+    {
+        Recorded {
+            answer: Err(refusal),
+            next,
+        }
+    }
 }
 
 // What hearing a frame finds: NEW with how many frames are missing before it, or nothing to hand on.
-#[derive(Clone, Copy)]
+#[derive(Clone, Copy, Debug, PartialEq, Eq)]
 pub enum Arrival {
     New(u64),
     Repeat,
     Late,
-}
-
-#[derive(Clone, Copy)]
-pub enum ArrivalAnswer {
-    Done(Arrival),
-    Refused(Refusal),
-}
-
-// What hearing a frame's count finds, and the record after it.
-#[derive(Clone, Copy)]
-pub struct CountHearing {
-    pub answer: ArrivalAnswer,
-    pub next: ChannelRecord,
-}
-
-// What a frame's count is to the slot that holds its channel, and the slot after it.
-#[derive(Clone, Copy)]
-pub enum SlotAnswer {
-    Done { arrival: Arrival, slot: Slot },
-    Refused(Refusal),
 }
 
 impl ChannelRecord {
@@ -111,211 +91,68 @@ impl ChannelRecord {
     pub fn new() -> ChannelRecord
         ensures { result ≡ empty_record }
     {
-        let slot = Slot {
-            state: SlotState::Closed,
-        };
+        let state = SlotState::Closed;
         ChannelRecord {
-            slots: [slot; SLOTS],
+            slots: [Slot { state }; SLOTS],
         }
     }
 
     // Takes the first closed slot. Refuses BAD_FIELD, ALREADY_OPEN, TABLE_FULL.
-    pub fn open_channel(self, channel: Channel, width: u8) -> Recorded
-        ensures { keeping (paper_done result.answer) result.next ≡ opening self channel width }
+    #[tactic(auto, unfolding(crate::specs::Record::opening))]
+    pub fn open_channel(self, channel: Channel, width: u8) -> Recorded<()>
+        ensures { keeping (paper result.answer) result.next ≡ opening self channel width }
     {
-        if channel.vc_id > MAX_VC_ID {
-            return refused(Refusal::BadField, self);
+        if channel.vc_id > MAX_VC_ID || width == 0 || width > MAX_COUNT_LEN {
+            return Recorded::refused(self, Refusal::BadField);
         }
-        if width == 0 {
-            return refused(Refusal::BadField, self);
+        if self.search(channel).is_some() {
+            return Recorded::refused(self, Refusal::AlreadyOpen);
         }
-        if width > MAX_COUNT_LEN {
-            return refused(Refusal::BadField, self);
-        }
-        if search(self, channel) < SLOTS {
-            return refused(Refusal::AlreadyOpen, self);
-        }
-        let at = first_closed(self);
-        if at >= SLOTS {
-            return refused(Refusal::TableFull, self);
-        }
+        let Some(at) = self.first_closed() else {
+            return Recorded::refused(self, Refusal::TableFull);
+        };
         let state = SlotState::Opened { channel, width };
         Recorded {
-            answer: DoneAnswer::Done,
-            next: changed(self, at, state),
+            answer: Ok(()),
+            next: self.with_state(at, state),
         }
     }
 
     // Refuses NOT_OPEN.
-    pub fn close_channel(self, channel: Channel) -> Recorded
-        ensures { keeping (paper_done result.answer) result.next ≡ closing self channel }
+    #[tactic(auto, unfolding(crate::specs::Record::closing))]
+    pub fn close_channel(self, channel: Channel) -> Recorded<()>
+        ensures { keeping (paper result.answer) result.next ≡ closing self channel }
     {
-        let at = search(self, channel);
-        if at >= SLOTS {
-            return refused(Refusal::NotOpen, self);
-        }
-        let state = SlotState::Closed;
+        let Some(at) = self.search(channel) else {
+            return Recorded::refused(self, Refusal::NotOpen);
+        };
         Recorded {
-            answer: DoneAnswer::Done,
-            next: changed(self, at, state),
+            answer: Ok(()),
+            next: self.with_state(at, SlotState::Closed),
         }
     }
 
     // Width and totals of an open channel. Refuses NOT_OPEN.
-    pub fn channel_state(self, channel: Channel) -> StateAnswer
-        ensures { paper_state result ≡ showing self channel }
+    #[tactic(auto, unfolding(crate::specs::Record::showing))]
+    pub fn channel_state(self, channel: Channel) -> Result<SlotState, Refusal>
+        ensures { paper result ≡ showing self channel }
     {
-        let at = search(self, channel);
-        if at >= SLOTS {
-            return StateAnswer::Refused(Refusal::NotOpen);
-        }
-        let slots = self.slots;
-        let slot = slots[at];
-        let state = slot.state;
-        StateAnswer::Done(state)
+        let at = self.search(channel).ok_or(Refusal::NotOpen)?;
+        Ok(self.slots[at].state)
     }
 
     // The sum of missing over open channels. Refuses TOTAL_FULL.
-    pub fn total_missing(self) -> TotalAnswer
-        ensures { paper_total result ≡ console_total self }
+    pub fn total_missing(self) -> Result<u64, Refusal>
+        ensures { paper result ≡ console_total self }
     {
-        let slots = self.slots;
         let mut sum: u64 = 0;
-        let mut i: usize = 0;
-        while i < SLOTS {
-            let slot = slots[i];
-            let state = slot.state;
-            let missing = missing_of(state);
+        for slot in self.slots {
+            let missing = slot.state.missing();
             if missing > MOST {
-                return TotalAnswer::Refused(Refusal::TotalFull);
+                return Err(Refusal::TotalFull);
             }
             sum += missing;
-            i += 1;
         }
-        TotalAnswer::Done(sum)
-    }
-}
-
-pub fn same_channel(a: Channel, b: Channel) -> bool
-    ensures { result ≡ same_channel a b }
-{
-    if a.spacecraft_id != b.spacecraft_id {
-        return false;
-    }
-    if a.vc_id != b.vc_id {
-        return false;
-    }
-    let flag = a.sequence_control_flag;
-    let other = b.sequence_control_flag;
-    flag.number() == other.number()
-}
-
-// The first slot that holds the channel, or how many there are.
-pub fn search(channels: ChannelRecord, channel: Channel) -> usize
-    ensures { result ≡ find channel channels.slots }
-{
-    let slots = channels.slots;
-    let mut i: usize = 0;
-    let at = loop {
-        if i >= SLOTS {
-            break i;
-        }
-        let slot = slots[i];
-        let state = slot.state;
-        if state_holds(state, channel) {
-            break i;
-        }
-        i += 1;
-    };
-    at
-}
-
-// The first closed slot, or how many there are.
-fn first_closed(channels: ChannelRecord) -> usize
-    ensures { result ≡ vacant channels.slots }
-{
-    let slots = channels.slots;
-    let mut i: usize = 0;
-    let at = loop {
-        if i >= SLOTS {
-            break i;
-        }
-        let slot = slots[i];
-        let state = slot.state;
-        if state_closed(state) {
-            break i;
-        }
-        i += 1;
-    };
-    at
-}
-
-// The record with another state in a slot.
-fn changed(channels: ChannelRecord, at: usize, state: SlotState) -> ChannelRecord
-    requires { at < 8 }
-    ensures { result ≡ put channels at state }
-{
-    let mut next = channels;
-    next.slots[at] = Slot { state };
-    next
-}
-
-fn state_holds(state: SlotState, channel: Channel) -> bool
-    ensures { result ≡ state_holds channel state }
-{
-    match state {
-        SlotState::Closed => false,
-        SlotState::Opened {
-            channel: own,
-            width: _,
-        } => same_channel(own, channel),
-        SlotState::Heard {
-            channel: own,
-            width: _,
-            totals: _,
-        } => same_channel(own, channel),
-    }
-}
-
-fn state_closed(state: SlotState) -> bool
-    ensures { result ≡ state_closed state }
-{
-    match state {
-        SlotState::Closed => true,
-        SlotState::Opened {
-            channel: _,
-            width: _,
-        } => false,
-        SlotState::Heard {
-            channel: _,
-            width: _,
-            totals: _,
-        } => false,
-    }
-}
-
-fn missing_of(state: SlotState) -> u64
-    ensures { result ≡ missing_of state }
-{
-    match state {
-        SlotState::Closed => 0,
-        SlotState::Opened {
-            channel: _,
-            width: _,
-        } => 0,
-        SlotState::Heard {
-            channel: _,
-            width: _,
-            totals,
-        } => totals.missing,
-    }
-}
-
-fn refused(refusal: Refusal, channels: ChannelRecord) -> Recorded
-    ensures { (result.answer ≡ DoneAnswer.Refused refusal) × (result.next ≡ channels) }
-{
-    Recorded {
-        answer: DoneAnswer::Refused(refusal),
-        next: channels,
+        Ok(sum)
     }
 }

@@ -12,8 +12,6 @@ use Rattle.uslp_checksum.specs.Checksum.{checksum_of}
 use Rattle.uslp_checksum.proofs.Laws.{sealed}
 use Rattle.uslp_kinds.specs.Outcome.{done}
 use Rattle.uslp_kinds.specs.declared.ManagedParameters.{ManagedParameters}
-use Rattle.uslp_kinds.specs.declared.OperationalControlField.{OperationalControlField}
-use Rattle.uslp_kinds.specs.declared.OperationalControlField.TheVariants.{Absent, Present}
 use Rattle.uslp_primary_header.specs.Header.{table, len_header, len_frame, header_reading}
 use Rattle.uslp_primary_header.specs.declared.PrimaryHeader.{PrimaryHeader}
 use Rattle.uslp_primary_header.proofs.RoundTrip as header
@@ -26,6 +24,7 @@ use Rattle.uslp_reader.specs.Reader.{ocf_at, frame_with, frame_reading, contents
 use Rattle.uslp_roundtrip.specs.Laid.{frame_of}
 use Rattle.uslp_reader.proofs.Done.{done_reads}
 use Rattle.uslp_reader.proofs.Paths.{contents_there}
+use Rattle.std.specs.Prelude.{Option, Some, None}
 
 pub length_body : (spare : ℕ) (x : Fields) → length (pack (field_table x.field)) ≡ len_field x.field
     → length (body spare x) ≡ data_start x.header x.field + length x.contents + cond (present x.ocf) 4 0
@@ -42,7 +41,7 @@ module _ (managed : ManagedParameters) (spare : ℕ) (x : Fields) (t : List ℕ)
   abbrev d : List ℕ
   d = x.contents
 
-  abbrev o : OperationalControlField
+  abbrev o : Option ℕ
   o = x.ocf
 
   abbrev L : List ℕ
@@ -100,17 +99,17 @@ module _ (managed : ManagedParameters) (spare : ℕ) (x : Fields) (t : List ℕ)
   front_long : length front ≡ data_start h f + length d
   front_long = simp (length-append, header.length_table spare h, field_long) (omega arith)
 
-  front_is : (v : OperationalControlField) → o ≡ v → L ++ t ≡ front ++ (ocf_octets v ++ behind managed.has_fecf)
+  front_is : (v : Option ℕ) → o ≡ v → L ++ t ≡ front ++ (ocf_octets v ++ behind managed.has_fecf)
   front_is v e =
-      s_is ∙ ap (λ (y : OperationalControlField). pack (table spare h) ++ (pack (field_table f) ++ (d ++ (ocf_octets y ++ behind managed.has_fecf)))) e
+      s_is ∙ ap (λ (y : Option ℕ). pack (table spare h) ++ (pack (field_table f) ++ (d ++ (ocf_octets y ++ behind managed.has_fecf)))) e
       ∙ simp append_assoc
 
   -- the OCF stands behind the data
-  ocf_read : (v : OperationalControlField) → o ≡ v → ocf_at (present v) (data_start h f + length d) (L ++ t) ≡ v
-  ocf_read Absent e = refl
-  ocf_read (Present n) e =
-      ap Present
-      (ap (word (data_start h f + length d) 4) (front_is (Present n) e)
+  ocf_read : (v : Option ℕ) → o ≡ v → ocf_at (present v) (data_start h f + length d) (L ++ t) ≡ v
+  ocf_read None e = refl
+  ocf_read (Some n) e =
+      ap Some
+      (ap (word (data_start h f + length d) 4) (front_is (Some n) e)
       ∙ ap (λ (i : ℕ). word i 4 (front ++ (octets 4 n ++ behind managed.has_fecf))) (sym front_long)
       ∙ word_octets front (behind managed.has_fecf) 4 n (w.ocf_fits n e))
 

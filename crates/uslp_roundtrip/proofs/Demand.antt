@@ -8,8 +8,6 @@ use lib.Dec.{ltb}
 use lib.ListN.{length}
 use Rattle.uslp_kinds.specs.Outcome.{done, refused, leaving, first_of}
 use Rattle.uslp_kinds.proofs.Outcomes.{refused_keeps}
-use Rattle.uslp_kinds.specs.declared.OperationalControlField.{OperationalControlField}
-use Rattle.uslp_kinds.specs.declared.OperationalControlField.TheVariants.{Absent, Present}
 use Rattle.uslp_primary_header.specs.Header.{header_checking}
 use Rattle.uslp_primary_header.proofs.Checks.{channel_in, map_in, width_in_lem, count_in, checks_done}
 use Rattle.uslp_layout.specs.Layout.{present}
@@ -20,16 +18,17 @@ use Rattle.uslp_writer.proofs.Paths.{writing_done, writing_through}
 use Rattle.uslp_roundtrip.specs.Demand.{Demand2Reader, Demand2Writer, over}
 use Rattle.uslp_roundtrip.proofs.Exactly.{exactly}
 use Rattle.uslp_roundtrip.proofs.Trips.{written_fields}
+use Rattle.std.specs.Prelude.{Option, Some, None}
 
 pub reads : Demand2Reader frame_reading
 reads = exactly
 
 -- an OCF whose flag is right is not missing
-not_missing : (b : Bool) (x : OperationalControlField) → (present x || b) ≡ present x → (b && not (present x)) ≡ false
-not_missing true Absent e = e
-not_missing false Absent e = refl
-not_missing true (Present n) e = refl
-not_missing false (Present n) e = refl
+not_missing : (b : Bool) (x : Option ℕ) → (present x || b) ≡ present x → (b && not (present x)) ≡ false
+not_missing true None e = e
+not_missing false None e = refl
+not_missing true (Some n) e = refl
+not_missing false (Some n) e = refl
 
 -- a header passes the checks if it does with length and flag updated
 passes : (c : TransferFrameCreator) (n : ℕ) → header_checking (completed c n) ≡ done (completed c n)

@@ -14,7 +14,6 @@ use Rattle.uslp_checksum.specs.Checksum.{checksum_of}
 use Rattle.uslp_checksum.proofs.Laws.{residue}
 use Rattle.uslp_kinds.specs.Outcome.{done}
 use Rattle.uslp_kinds.specs.declared.ManagedParameters.{ManagedParameters}
-use Rattle.uslp_kinds.specs.declared.OperationalControlField.TheVariants.{Present}
 use Rattle.uslp_primary_header.specs.Header.{len_header, len_frame, spare_in}
 use Rattle.uslp_primary_header.specs.declared.PrimaryHeader.{PrimaryHeader}
 use Rattle.uslp_primary_header.proofs.RoundTrip as header_trip
@@ -27,12 +26,13 @@ use Rattle.uslp_reader.specs.declared.TransferFrame.{TransferFrame}
 use Rattle.uslp_reader.proofs.Done.{ReadDone, read_done}
 use Rattle.uslp_reader.proofs.Paths.{contents_there}
 use Rattle.uslp_roundtrip.specs.Laid.{frame_of, Laid}
+use Rattle.std.specs.Prelude.{Some}
 
 present_ocf : (b : Bool) (i : ℕ) (s : List ℕ) → b ≡ present (ocf_at b i s)
 present_ocf true i s = refl
 present_ocf false i s = refl
 
-ocf_lt : (b : Bool) (i : ℕ) (s : List ℕ) → AreOctets s → (n : ℕ) → ocf_at b i s ≡ Present n → n < 2 ^ 32
+ocf_lt : (b : Bool) (i : ℕ) (s : List ℕ) → AreOctets s → (n : ℕ) → ocf_at b i s ≡ Some n → n < 2 ^ 32
 ocf_lt true i s oct n e = subst (λ (x : ℕ). x < 2 ^ 32) (let z : word i 4 s ≡ n = cc in z) (word_lt s i oct 4)
 ocf_lt false i s oct n e = let z : ◌≡◌ {A = ℕ} 0 1 = cc in absurd (omega arith)
 

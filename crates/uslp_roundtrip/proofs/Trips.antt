@@ -9,8 +9,6 @@ use lib.ListN.{length, take, drop}
 use Rattle.uslp_octets.specs.Octets.{AreOctets}
 use Rattle.uslp_kinds.specs.Outcome.{done, leaving}
 use Rattle.uslp_kinds.specs.declared.ManagedParameters.{ManagedParameters}
-use Rattle.uslp_kinds.specs.declared.OperationalControlField.{OperationalControlField}
-use Rattle.uslp_kinds.specs.declared.OperationalControlField.TheVariants.{Absent, Present}
 use Rattle.uslp_primary_header.specs.Header.{len_frame, spare_in}
 use Rattle.uslp_primary_header.specs.declared.PrimaryHeader.{PrimaryHeader}
 use Rattle.uslp_layout.specs.Layout.{needed, present, layout, WellFormed}
@@ -24,18 +22,19 @@ use Rattle.uslp_roundtrip.specs.Bounds.{Bounds}
 use Rattle.uslp_roundtrip.specs.Laid.{frame_of}
 use Rattle.uslp_roundtrip.proofs.Complete.{complete, complete_contents}
 use Rattle.uslp_roundtrip.proofs.Sound.{fields, stands, begins}
+use Rattle.std.specs.Prelude.{Option, Some, None}
 
 -- where no OCF is missing, the flag written says whether there is one
-flag_given : (b : Bool) (x : OperationalControlField) → b && not (present x) ≡ false → present x || b ≡ present x
-flag_given true Absent e = let z : ◌≡◌ {A = ℕ} 0 1 = cc in absurd (omega arith)
-flag_given false Absent e = refl
-flag_given b (Present n) e = refl
+flag_given : (b : Bool) (x : Option ℕ) → b && not (present x) ≡ false → present x || b ≡ present x
+flag_given true None e = let z : ◌≡◌ {A = ℕ} 0 1 = cc in absurd (omega arith)
+flag_given false None e = refl
+flag_given b (Some n) e = refl
 
-flag_there : (b : Bool) (x : OperationalControlField) → b ≡ present x → (b && not (present x) ≡ false) × (present x || b ≡ b)
-flag_there true Absent e = let z : ◌≡◌ {A = ℕ} 0 1 = cc in absurd (omega arith)
-flag_there false Absent e = (refl, refl)
-flag_there true (Present n) e = (refl, refl)
-flag_there false (Present n) e = let z : ◌≡◌ {A = ℕ} 0 1 = cc in absurd (omega arith)
+flag_there : (b : Bool) (x : Option ℕ) → b ≡ present x → (b && not (present x) ≡ false) × (present x || b ≡ b)
+flag_there true None e = let z : ◌≡◌ {A = ℕ} 0 1 = cc in absurd (omega arith)
+flag_there false None e = (refl, refl)
+flag_there true (Some n) e = (refl, refl)
+flag_there false (Some n) e = let z : ◌≡◌ {A = ℕ} 0 1 = cc in absurd (omega arith)
 
 module _ (c : TransferFrameCreator) (d s s' : List ℕ) (n : ℕ) (b : Bounds c d) (e : frame_writing c d s ≡ leaving (done n) s') where
   w : Through c d s s' n

@@ -10,7 +10,6 @@ use Rattle.uslp_kinds.specs.Outcome.{done, refused, leaving}
 use Rattle.uslp_kinds.specs.Managed.{no_fecf}
 use Rattle.uslp_kinds.proofs.Outcomes.{not_done, done_one}
 use Rattle.uslp_kinds.specs.declared.ManagedParameters.{ManagedParameters}
-use Rattle.uslp_kinds.specs.declared.OperationalControlField.TheVariants.{Absent}
 use Rattle.uslp_primary_header.specs.Header.{with_count, header_reading}
 use Rattle.uslp_data_field_header.specs.Field.{field_reading}
 use Rattle.uslp_layout.specs.Layout.{Fields}
@@ -22,13 +21,14 @@ use Rattle.uslp_writer.specs.declared.TransferFrameCreator.{TransferFrameCreator
 use Rattle.uslp_roundtrip.specs.Bounds.{Bounds}
 use Rattle.uslp_roundtrip.specs.Demand.{Reader, Demand2Reader, Writer, Demand2Writer}
 use Rattle.uslp_roundtrip.proofs.Exactly.{exactly}
+use Rattle.std.specs.Prelude.{None}
 
 -- frame F with this count
 abbrev counting : ℕ → List ℕ
 counting n = 0xC1 ∷ 0x23 ∷ 0x48 ∷ 0xA6 ∷ 0x00 ∷ 0x0A ∷ 0x01 ∷ n ∷ 0xE4 ∷ 0x0A ∷ 0xF0 ∷ []
 
 abbrev fields : ℕ → Fields
-fields n = record { header = with_count 1 n some; field = whole; contents = 0x0A ∷ 0xF0 ∷ []; ocf = Absent }
+fields n = record { header = with_count 1 n some; field = whole; contents = 0x0A ∷ 0xF0 ∷ []; ocf = None }
 
 abbrev read : ℕ → TransferFrame
 read n = frame_of (fields n)

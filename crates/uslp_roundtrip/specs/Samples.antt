@@ -1,12 +1,10 @@
 -- Frame F (docs/RULES.md, section 10), and headers, frames and octets that the claims are tried on.
-use Rattle.std.specs.Prelude.{Bool, true, false, List, [], ◌∷◌, ℕ}
+use Rattle.std.specs.Prelude.{Bool, true, false, List, [], ◌∷◌, ℕ, Some, None}
 use Rattle.uslp_kinds.specs.declared.SourceOrDestField.TheVariants.{Dest}
 use Rattle.uslp_kinds.specs.declared.BypassSequenceControlFlag.TheVariants.{SequenceControlledQoS}
 use Rattle.uslp_kinds.specs.declared.ProtocolControlCommandFlag.TheVariants.{TfdfContainsUserData}
 use Rattle.uslp_kinds.specs.declared.ConstructionRule.TheVariants.{PacketSpanningMultipleFrames, NoSegmentation}
 use Rattle.uslp_kinds.specs.declared.UslpProtocolId.TheVariants.{UserDefinedOctetStream, Idle}
-use Rattle.uslp_kinds.specs.declared.FhpOrLvo.TheVariants as pointer
-use Rattle.uslp_kinds.specs.declared.OperationalControlField.TheVariants.{Absent}
 use Rattle.uslp_primary_header.specs.Header.{with_count}
 use Rattle.uslp_primary_header.specs.declared.PrimaryHeader.{PrimaryHeader}
 use Rattle.uslp_data_field_header.specs.declared.TransferFrameDataFieldHeader.{TransferFrameDataFieldHeader}
@@ -45,10 +43,10 @@ made = with_count 0 0 some
 
 -- rule 7 with no pointer, and rule 0 with one
 abbrev pub whole : TransferFrameDataFieldHeader
-whole = record { construction_rule = NoSegmentation; uslp_protocol_id = UserDefinedOctetStream; fhp_or_lvo = pointer.Absent }
+whole = record { construction_rule = NoSegmentation; uslp_protocol_id = UserDefinedOctetStream; fhp_or_lvo = None }
 
 abbrev pub spanning : TransferFrameDataFieldHeader
-spanning = record { construction_rule = PacketSpanningMultipleFrames; uslp_protocol_id = Idle; fhp_or_lvo = pointer.Present 0x0AF0 }
+spanning = record { construction_rule = PacketSpanningMultipleFrames; uslp_protocol_id = Idle; fhp_or_lvo = Some 0x0AF0 }
 
 -- frame F as it is read, and what it is written from: with its count, with none, and with an OCF flag but no OCF
 abbrev pub read_f : TransferFrame
@@ -56,19 +54,19 @@ read_f =
     record {
       primary_header = some;
       data_field_header = whole;
-      operational_control_field = Absent;
+      operational_control_field = None;
       data_start = 9;
       data_len = 2;
     }
 
 abbrev pub frame_f : TransferFrameCreator
-frame_f = record { primary_header = some; data_field_header = whole; operational_control_field = Absent; has_fecf = false }
+frame_f = record { primary_header = some; data_field_header = whole; operational_control_field = None; has_fecf = false }
 
 abbrev pub plain : TransferFrameCreator
-plain = record { primary_header = made; data_field_header = whole; operational_control_field = Absent; has_fecf = false }
+plain = record { primary_header = made; data_field_header = whole; operational_control_field = None; has_fecf = false }
 
 abbrev pub flagged_only : TransferFrameCreator
-flagged_only = record { primary_header = flagged; data_field_header = whole; operational_control_field = Absent; has_fecf = false }
+flagged_only = record { primary_header = flagged; data_field_header = whole; operational_control_field = None; has_fecf = false }
 
 -- eleven octets to write over
 abbrev pub zeros : List ℕ

@@ -9,8 +9,6 @@ use lib.ListN.{get_or, drop}
 use lib.Seq.{drop-drop}
 use Rattle.uslp_octets.specs.Octets.{AreOctets, BitField, bits_in, unpack, word}
 use Rattle.uslp_octets.proofs.Laws.{field_eq, unpack_cons, are_drop, word_drop}
-use Rattle.uslp_kinds.specs.Kinds.{bypass_of}
-use Rattle.uslp_kinds.specs.declared.BypassSequenceControlFlag.{BypassSequenceControlFlag}
 use Rattle.uslp_kinds.proofs.Cases.{bypass_number_lem}
 use Rattle.uslp_record.specs.declared.Channel.{Channel}
 use Rattle.uslp_record.specs.declared.SlotState.TheVariants.{Opened, Heard}
@@ -40,13 +38,6 @@ module _ (s : List ℕ) (oct : AreOctets s) (at : ℕ) where
 
   octet : (j : ℕ) → word (at + j) 1 s ≡ get_or s (at + j) 0
   octet j = omega (arith, ap (λ (n : ℕ). get_or s n 0) (add-zero (at + j)))
-
-  pub channel_at_lem : (f : Form) (x y : ℕ) (b : BypassSequenceControlFlag) → x ≡ get_or s at 0 * 256 + get_or s (at + 1) 0 → y ≡ word (at + 3) (flag_long f) s
-      → b ≡ bypass_of y → record { spacecraft_id = x; vc_id = get_or s (at + 2) 0; sequence_control_flag = b } ≡ channel_from f at s
-  channel_at_lem f x y b e d is =
-      let craft : x ≡ word at 2 s = omega (arith, e, ap (λ (n : ℕ). get_or s n 0) (add-zero at)) in
-      let flag : b ≡ bypass_of (word (at + 3) (flag_long f) s) = is ∙ ap bypass_of d in
-      λ i. record { spacecraft_id = craft i; vc_id = sym (octet 2) i; sequence_control_flag = flag i }
 
   totals_fields : unpack (totals_row no_totals) (from 0) ≡ totals_row (totals_from at s)
   totals_fields =

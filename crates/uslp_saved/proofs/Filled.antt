@@ -1,24 +1,20 @@
 -- Entries that are read, one by one, into slots from the first on.
-use mathlib.Core.Path.{◌≡◌, refl, sym, ◌∙◌, ap, ap₂, subst}
+use mathlib.Core.Path.{◌≡◌, refl, sym, ◌∙◌, ap, ap₂}
 use mathlib.Core.List.{List, [], ◌∷◌, ◌++◌, map}
 use Prim.Native.Nat.{ℕ, zero, suc, ◌+◌, ◌-◌, ◌*◌, ◌<◌, ◌≤◌}
 use native.Mathlib.Omega.{arith}
-use native.Mathlib.Decide.{dec_lt, ℕ_discrete}
-use native.Mathlib.Nat.{mul-le-mul_right}
-use Rattle.uslp_octets.specs.Octets.{word}
-use Rattle.uslp_octets.proofs.Laws.{word_drop}
 use lib.ListN.{length, take, drop, get_or, set, replicate, get_or-append}
 use lib.Seq.{get_or-append-add, drop-drop, take_all, length-take-le}
-use Rattle.uslp_record.specs.Slots.{slot_of, put, empty_record}
+use Rattle.uslp_record.specs.Slots.{slot_of, put}
 use Rattle.uslp_record.specs.declared.SlotState.{SlotState}
 use Rattle.uslp_record.specs.declared.SlotState.TheVariants.{Closed}
 use Rattle.uslp_record.specs.declared.Slot.{Slot}
 use Rattle.uslp_record.specs.declared.ChannelRecord.{ChannelRecord}
 use Rattle.uslp_form.specs.declared.Form.{Form}
 use Rattle.uslp_form.specs.Form.{restored}
-use Rattle.uslp_form.specs.FromRow.{flag_long, unheard_long, heard_long}
-use Rattle.uslp_saved.specs.Reading.{unheard_in, heard_in, entries_in, first_count, second, second_count, place_of, unheard_of_octets, heard_of_octets, entries_of_octets, Shaped, FlagFits}
-use Rattle.uslp_saved.proofs.Entries.{place_low, place_high, place_first, place_second, unheard_long_lem}
+use Rattle.uslp_form.specs.FromRow.{unheard_long, heard_long}
+use Rattle.uslp_saved.specs.Reading.{unheard_in, heard_in, entries_in, first_count, second, second_count, place_of, unheard_of_octets, heard_of_octets, entries_of_octets}
+use Rattle.uslp_saved.proofs.Entries.{place_first, place_second, unheard_long_lem}
 
 entry_in : (read : List ℕ → SlotState) (long n : ℕ) (s : List ℕ) (i : ℕ) → i < n → get_or (entries_in read long n s) i Closed ≡ read (drop (i * long) s)
 entry_in read long zero s i h = absurd (omega arith)
@@ -41,56 +37,12 @@ module _ (f : Form) (s : List ℕ) (i p : ℕ) (spot : p ≡ place_of f (first_c
       ∙ entry_in (heard_in f) (heard_long f) (second_count f s) (drop (second f s + 1) s) j (omega arith)
       ∙ ap (heard_in f) (place_second f s i far ∙ ap (λ (k : ℕ). drop k s) (sym spot)))
 
--- an entry stands within octets that have the shape, and so does its flag
-module _ (f : Form) (s : List ℕ) (shape : Shaped f s) (i p : ℕ) (spot : p ≡ place_of f (first_count f s) i) where
-  pub unheard_within : i < first_count f s → p + unheard_long f ≤ length s
-  unheard_within low =
-      let z : suc i * unheard_long f ≤ first_count f s * unheard_long f = mul-le-mul_right (unheard_long f) low in
-      omega (arith, shape.long, place_low f (first_count f s) i _ low refl, z)
-
-  pub heard_within : first_count f s ≤ i → i < first_count f s + second_count f s → p + heard_long f ≤ length s
-  heard_within far low =
-      let n = first_count f s in
-      let y : suc (i - n) ≤ second_count f s = omega arith in
-      let z : suc (i - n) * heard_long f ≤ second_count f s * heard_long f = mul-le-mul_right (heard_long f) y in
-      omega (arith, shape.long, place_high f n i _ _ far refl refl, z)
-
-  pub flag_within : i < first_count f s + second_count f s → p + 3 + flag_long f ≤ length s
-  flag_within low =
-      elim (dec_lt i (first_count f s)) [ yes h ↦ omega (arith, unheard_within h) | no h ↦ omega (arith, heard_within (omega arith) low) ]
-
--- what is asked of a flag at its place
-module _ (f : Form) (s : List ℕ) (i p x : ℕ) (spot : p ≡ place_of f (first_count f s) i) (is : x ≡ word (p + 3) (flag_long f) s) where
-  flag_is : x ≡ word 3 (flag_long f) (drop (place_of f (first_count f s) i) s)
-  flag_is = is ∙ sym (word_drop p 3 (flag_long f) s) ∙ ap (λ (n : ℕ). word 3 (flag_long f) (drop n s)) spot
-
-  pub flag_so : x ≤ 1 → FlagFits f (drop (place_of f (first_count f s) i) s)
-  flag_so h = omega (arith, flag_is)
-
-  pub flag_not : 1 < x → FlagFits f (drop (place_of f (first_count f s) i) s) → ⊥
-  flag_not h e = omega (arith, flag_is, e)
-
--- one flag more
-module _ (f : Form) (s : List ℕ) (i : ℕ) where
-  abbrev pub FlagsTo : Type 0
-  FlagsTo = (j : ℕ) → j < i → FlagFits f (drop (place_of f (first_count f s) j) s)
-
-pub flags_more : (f : Form) (s : List ℕ) (i : ℕ) → FlagsTo f s i → FlagFits f (drop (place_of f (first_count f s) i) s) → FlagsTo f s (i + 1)
-flags_more f s i all one j h = go (ℕ_discrete j i)
-  where
-    go : Dec (j ≡ i) → FlagFits f (drop (place_of f (first_count f s) j) s)
-    go (yes e) = subst (λ (n : ℕ). FlagFits f (drop (place_of f (first_count f s) n) s)) (sym e) one
-    go (no e) = all j (omega arith)
-
 -- one more entry
 slots_more : (l : List SlotState) (m i : ℕ) → i < length l
     → set (map slot_of (take i l) ++ replicate (suc m) (slot_of Closed)) i (slot_of (get_or l i Closed)) ≡ map slot_of (take (suc i) l) ++ replicate m (slot_of Closed)
 slots_more [] m i h = absurd (omega arith)
 slots_more (x ∷ l) m zero h = refl
 slots_more (x ∷ l) m (suc i) h = ap (λ (z : List Slot). slot_of x ∷ z) (slots_more l m i (omega arith))
-
-pub filled_none : (l : List SlotState) → empty_record ≡ restored (take 0 l)
-filled_none l = refl
 
 pub filled_more : (l : List SlotState) (r : ChannelRecord) (i : ℕ) (x : SlotState) → i < length l → i < 8 → r ≡ restored (take i l) → x ≡ get_or l i Closed
     → put r i x ≡ restored (take (suc i) l)

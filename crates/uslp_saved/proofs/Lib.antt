@@ -1,11 +1,10 @@
-pub mod ByForm
 pub mod Known
 pub mod Fields
 pub mod Flags
 pub mod Entries
 pub mod Filled
 pub mod Picked
-pub mod Chosen
+pub mod Nearest
 pub mod Puts
 pub mod Walk
 pub mod Telling

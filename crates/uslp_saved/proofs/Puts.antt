@@ -1,9 +1,8 @@
 -- Octets put behind those that stand.
-use mathlib.Core.Path.{◌≡◌, refl, sym, ◌∙◌, ap, ap₂, subst}
-use mathlib.Core.List.{List, [], ◌∷◌, ◌++◌, append_assoc, append-nil}
+use mathlib.Core.Path.{◌≡◌, refl, sym, ◌∙◌, ap, ap₂}
+use mathlib.Core.List.{List, [], ◌∷◌, ◌++◌, append_assoc}
 use Prim.Native.Nat.{ℕ, ◌+◌, ◌*◌, ◌-◌, ◌<◌, ◌≤◌}
 use native.Mathlib.Omega.{arith}
-use native.Mathlib.Nat.{add-zero}
 use lib.ListN.{length, take, drop, length-append}
 use lib.Seq.{take_at, length-take-le}
 use borrow.Rule.Slice.PartMut.{put_mid, mid_of, mid_len}
@@ -13,15 +12,12 @@ use Rattle.uslp_kinds.specs.Kinds.{bypass_number}
 use Rattle.uslp_kinds.proofs.Cases.{bypass_lt}
 use Rattle.uslp_record.specs.declared.Channel.{Channel}
 use Rattle.uslp_record.specs.declared.Totals.{Totals}
-use Rattle.uslp_record.specs.declared.SlotState.{SlotState}
-use Rattle.uslp_record.specs.declared.SlotState.TheVariants.{Closed, Opened, Heard}
-use Rattle.uslp_saved.specs.declared.saving.Out.{Out}
-use Rattle.uslp_saved.specs.Choice.{so_far, Narrow, Wide, Puts}
+use Rattle.uslp_record.specs.declared.SlotState.TheVariants.{Opened, Heard}
+use Rattle.uslp_saved.specs.Choice.{Wide}
 use Rattle.uslp_form.specs.declared.Form.{Form}
 use Rattle.uslp_form.specs.declared.Form.TheVariants.{One, Two}
 use Rattle.uslp_form.specs.Form.{flag_column, columns, row, totals_row}
-use Rattle.uslp_form.specs.FromRow.{flag_long, unheard_long, heard_long}
-use Rattle.uslp_form.proofs.Rows.{opened_size, heard_size}
+use Rattle.uslp_form.specs.FromRow.{flag_long}
 
 module _ (s ys : List ℕ) (at width n : ℕ) (fits : at + width ≤ length s) (is : ys ≡ octets (length (mid_of at (at + width - at) s)) n) where
   pub put_behind : take (at + width) (put_mid at (at + width - at) s ys) ≡ take at s ++ octets width n
@@ -87,7 +83,7 @@ totals_row_lem t f =
     (pack_cons "repeats" 8 p 8 (("late", 64, l) ∷ []) refl (f.4, tt)
     ∙ ap (λ (z : List ℕ). octets 8 p ++ z) (pack_cons "late" 8 l 0 [] refl tt))))
 
-heard_row : (f : Form) (k : Channel) (w : ℕ) (t : Totals) → Wide t → k.vc_id < 256 → w < 256
+pub heard_row : (f : Form) (k : Channel) (w : ℕ) (t : Totals) → Wide t → k.vc_id < 256 → w < 256
     → pack (row f (Heard k w t)) ≡ pack (row f (Opened k w)) ++ pack (totals_row t)
 heard_row f k w t d a b =
     let flag = octets (flag_long f) (bypass_number k.sequence_control_flag) in
@@ -95,47 +91,7 @@ heard_row f k w t d a b =
     ∙ ap (λ (l : List ℕ). octets 2 k.spacecraft_id ++ (octets 1 k.vc_id ++ l)) (sym (append_assoc flag (octets 1 w) (pack (totals_row t))))
     ∙ sym (ap (λ (l : List ℕ). l ++ pack (totals_row t)) (channel_row f k w a b))
 
--- puts one behind the other
-pub three : (o x y z : List ℕ) {a b r : List ℕ} → a ≡ o ++ x → b ≡ a ++ y → r ≡ b ++ z → r ≡ o ++ (x ++ (y ++ z))
-three o x y z p q s = s ∙ ap (λ (l : List ℕ). l ++ z) (q ∙ ap (λ (l : List ℕ). l ++ y) p) ∙ simp append_assoc
-
-pub two : (o x y : List ℕ) {a r : List ℕ} → a ≡ o ++ x → r ≡ a ++ y → r ≡ o ++ (x ++ y)
-two o x y p q = q ∙ ap (λ (l : List ℕ). l ++ y) p ∙ append_assoc o x y
-
-pub four : (o w x y z : List ℕ) {a b d r : List ℕ} → a ≡ o ++ w → b ≡ a ++ x → d ≡ b ++ y → r ≡ d ++ z → r ≡ o ++ (w ++ (x ++ (y ++ z)))
-four o w x y z p q s t = t ∙ ap (λ (l : List ℕ). l ++ z) (three o w x y p q s) ∙ simp append_assoc
-
-pub five : (o v w x y z : List ℕ) {a b d e r : List ℕ} → a ≡ o ++ v → b ≡ a ++ w → d ≡ b ++ x → e ≡ d ++ y → r ≡ e ++ z → r ≡ o ++ (v ++ (w ++ (x ++ (y ++ z))))
-five o v w x y z {b} p q s t u =
-    u ∙ ap (λ (l : List ℕ). l ++ z) (three o v w (x ++ y) p q (t ∙ ap (λ (l : List ℕ). l ++ y) s ∙ append_assoc b x y)) ∙ simp append_assoc
-
--- an entry behind what was put
-module _ (f : Form) (o : Out) where
-  pub room_opened : (s : SlotState) {k : Channel} {w : ℕ} → s ≡ Opened k w → o.len + length (pack (row f s)) ≤ 362 → o.len + unheard_long f ≤ 362
-  room_opened s {k} {w} e h =
-      let z = subst (λ (x : SlotState). o.len + length (pack (row f x)) ≤ 362) e h in
-      omega (arith, opened_size f k w)
-
-  pub room_heard : (s : SlotState) {k : Channel} {w : ℕ} {t : Totals} → s ≡ Heard k w t → o.len + length (pack (row f s)) ≤ 362
-      → o.len + heard_long f ≤ 362
-  room_heard s {k} {w} {t} e h =
-      let z = subst (λ (x : SlotState). o.len + length (pack (row f x)) ≤ 362) e h in
-      omega (arith, heard_size f k w t)
-
-  pub entry_none : (s : SlotState) → s ≡ Closed → Puts o o (pack (row f s))
-  entry_none s e = subst (λ (z : SlotState). Puts o o (pack (row f z))) (sym e) (sym (add-zero o.len), sym (append-nil (so_far o)))
-
-  pub entry_opened : (r : Out) (s : SlotState) {k : Channel} {w : ℕ} → s ≡ Opened k w
-      → (r.len ≡ o.len + unheard_long f) × (so_far r ≡ so_far o ++ pack (row f (Opened k w))) × Narrow k w → Puts o r (pack (row f s))
-  entry_opened r s {k} {w} e h =
-      subst (λ (z : SlotState). Puts o r (pack (row f z))) (sym e) (omega (arith, h.0, opened_size f k w), h.1)
-
-  pub entry_heard : (a r : Out) (s : SlotState) {k : Channel} {w : ℕ} {t : Totals} → s ≡ Heard k w t
-      → (a.len ≡ o.len + unheard_long f) × (so_far a ≡ so_far o ++ pack (row f (Opened k w))) × Narrow k w
-      → (r.len ≡ a.len + 40) × (so_far r ≡ so_far a ++ pack (totals_row t)) × Wide t → Puts o r (pack (row f s))
-  entry_heard a r s {k} {w} {t} e p q =
-      subst (λ (z : SlotState). Puts o r (pack (row f z))) (sym e) (
-        omega (arith, p.0, q.0, heard_size f k w t),
-        two (so_far o) (pack (row f (Opened k w))) (pack (totals_row t)) p.1 q.1
-            ∙ ap (λ (l : List ℕ). so_far o ++ l) (sym (heard_row f k w t q.2 p.2.0 p.2.1)),
-      )
+-- five puts one behind the other
+pub five : (o v w x y z : List ℕ) {a b d e r : List ℕ} → a ≡ o ++ v → b ≡ a ++ w → d ≡ b ++ x → e ≡ d ++ y → r ≡ e ++ z
+    → r ≡ o ++ (v ++ (w ++ (x ++ (y ++ z))))
+five o v w x y z p q s t u = rw (u, t, s, q, p) (simp append_assoc)

@@ -13,6 +13,8 @@ use Rattle.uslp_record.specs.declared.SlotState.TheVariants.{Opened, Heard}
 use Rattle.uslp_record.specs.declared.ChannelRecord.{ChannelRecord}
 use Rattle.uslp_form.specs.declared.Form.{Form}
 use Rattle.uslp_form.specs.Form.{row, rank}
+use Rattle.uslp_saved.specs.declared.columns.Section.{Section}
+use Rattle.uslp_saved.specs.declared.columns.Section.TheVariants.{Unheard, Heard as HeardSection}
 use Rattle.uslp_form.specs.FromRow.{flag_long, unheard_long, heard_long, opened_by, heard_by}
 
 -- a channel and totals of zeros: their rows have the columns' names and widths
@@ -53,6 +55,11 @@ Tells b P = (b ≡ true → P) × (b ≡ false → P → ⊥)
 -- the slot i is the first that holds the channel of x
 abbrev pub FirstAt : ChannelRecord → ℕ → SlotState → Type 0
 FirstAt q i x = (k : Channel) → state_holds k x ≡ true → find k q.slots ≡ i
+
+-- how long an entry of a section is
+abbrev pub long_of : Form → Section → ℕ
+long_of f Unheard = unheard_long f
+long_of f HeardSection = heard_long f
 
 module _ (f : Form) where
   abbrev pub unheard_in : List ℕ → SlotState

@@ -3,19 +3,21 @@
 
 ghost use Rattle.std.specs.Prelude.{◌≡◌};
 ghost use Rattle.uslp_kinds.specs.Outcome.{leaving};
-ghost use Rattle.uslp_kinds.specs.Answers.{paper_done, paper_length};
 ghost use Rattle.uslp_record.specs.Record.{keeping};
 ghost use Rattle.uslp_form.specs.Saved.{saving, Restoring};
+ghost use Rattle.uslp_kinds.specs.Answers.{paper};
 
-use columns::unheard_octets;
-use restoring::{all_admitted, flags_fit, has_form, read_all};
-use saving::{empty, put_section, says_all};
+use columns::Section;
+use out::Out;
+use restoring::Octets;
+use saving::{put_section, says_all};
 use uslp_form::Form;
-use uslp_kinds::{DoneAnswer, LengthAnswer, Refusal};
+use uslp_kinds::Refusal;
 use uslp_octets::copy_octets;
 use uslp_record::{ChannelRecord, Recorded};
 
 mod columns;
+mod out;
 mod restoring;
 mod saving;
 
@@ -23,53 +25,42 @@ mod saving;
 pub const MAX_FORM_LEN: usize = 362;
 
 // Writes the record as octets of this form to the front of `to`. Refuses LACKS_FLAG, SHORT_TARGET.
-pub fn save(channels: ChannelRecord, form: Form, to: &mut [u8]) -> LengthAnswer
-    ensures { leaving (paper_length result) to.new ≡ saving form channels to.old }
+pub fn save(channels: ChannelRecord, form: Form, to: &mut [u8]) -> Result<usize, Refusal>
+    ensures { leaving (paper result) to.new ≡ saving form channels to.old }
 {
     let slots = channels.slots;
     if !says_all(slots, form) {
-        return LengthAnswer::Refused(Refusal::LacksFlag);
+        return Err(Refusal::LacksFlag);
     }
-    let unheard = put_section(empty(), slots, form, false);
-    let out = put_section(unheard, slots, form, true);
-    let filled = out.octets;
+    let mut out = Out::new();
+    put_section(&mut out, slots, form, Section::Unheard);
+    put_section(&mut out, slots, form, Section::Heard);
+    let octets = out.as_slice();
     let found = to.len();
-    let expected = out.len;
+    let expected = octets.len();
     if found < expected {
-        return LengthAnswer::Refused(Refusal::ShortTarget { found, expected });
+        return Err(Refusal::ShortTarget { found, expected });
     }
-    copy_octets(&filled[0..expected], to);
-    LengthAnswer::Done(expected)
+    copy_octets(octets, to);
+    Ok(expected)
 }
 
 // The record that octets of this form hold, in place of this one. Refuses BAD_FORM.
-pub fn restore(channels: ChannelRecord, form: Form, from: &[u8]) -> Recorded
-    ensures { Restoring form channels from.now (keeping (paper_done result.answer) result.next) }
+pub fn restore(channels: ChannelRecord, form: Form, from: &[u8]) -> Recorded<()>
+    ensures { Restoring form channels from.now (keeping (paper result.answer) result.next) }
 {
-    if !has_form(form, from) {
-        return bad_form(channels);
+    let Some(octets) = Octets::shaped(form, from) else {
+        return Recorded::refused(channels, Refusal::BadForm);
+    };
+    if !octets.flags_fit() {
+        return Recorded::refused(channels, Refusal::BadForm);
     }
-    let unheard = from[0] as usize;
-    let second = 1 + unheard_octets(form, unheard);
-    let total = unheard + from[second] as usize;
-    if !flags_fit(form, from, unheard, total) {
-        return bad_form(channels);
-    }
-    let next = read_all(form, from, unheard, total);
-    if !all_admitted(next, form, unheard, total) {
-        return bad_form(channels);
+    let next = octets.read_all();
+    if !octets.admits(next) {
+        return Recorded::refused(channels, Refusal::BadForm);
     }
     Recorded {
-        answer: DoneAnswer::Done,
+        answer: Ok(()),
         next,
-    }
-}
-
-fn bad_form(channels: ChannelRecord) -> Recorded
-    ensures { result ≡ record { answer = DoneAnswer.Refused Refusal.BadForm; next = channels } }
-{
-    Recorded {
-        answer: DoneAnswer::Refused(Refusal::BadForm),
-        next: channels,
     }
 }

@@ -1,114 +1,135 @@
-// Octets as entries: read into slots from the first on, then each is judged.
+// Octets as a record: the shape is tested first, then all entries are read into slots from the first on, then each is judged.
 ghost use Rattle.std.specs.Prelude.{◌≡◌, ◌+◌, ◌≤◌, ◌<◌, drop, get_or, length};
-ghost use Rattle.uslp_octets.specs.Octets.{word};
+ghost use Rattle.std.specs.Option.{MatchOption};
+ghost use Rattle.uslp_octets.specs.Octets.{AreOctets, word};
 ghost use Rattle.uslp_record.specs.Made.{Openable, SoundTotals, Sound};
 ghost use Rattle.uslp_form.specs.Form.{restored};
-ghost use Rattle.uslp_form.specs.FromRow.{unheard_long, heard_long};
-ghost use Rattle.uslp_saved.specs.Reading.{channel_from, totals_from, unheard_in, heard_in, first_count, second_count, place_of, entries_of_octets, Shaped, Flagged, Tells, FirstAt, Above, Admitted, AllAdmitted};
+ghost use Rattle.uslp_form.specs.FromRow.{unheard_long};
+ghost use Rattle.uslp_saved.specs.Reading.{channel_from, totals_from, first_count, second_count, form_long, place_of, entries_of_octets, Shaped, FlagFits, Flagged, Tells, FirstAt, Above, Admitted, AllAdmitted};
 
-use crate::columns::{flag_at, flag_len, heard_octets, unheard_octets};
+use crate::columns::{Section, entries_len, flag_at, flag_len};
 use crate::saving::rank_of;
 use uslp_form::Form;
 use uslp_kinds::{BypassSequenceControlFlag, MAX_COUNT_LEN, MAX_VC_ID};
-use uslp_octets::{be_number, be_u16};
-use uslp_record::{Channel, ChannelRecord, MOST, SLOTS, Slot, SlotState, Totals, search};
+use uslp_octets::be_number;
+use uslp_record::{Channel, ChannelRecord, MOST, SLOTS, SlotState, Totals};
 
-// At most eight entries, and as many octets as the two counts say.
-pub(crate) fn has_form(form: Form, from: &[u8]) -> bool
-    ensures { Tells result (Shaped form from.now) }
-{
-    let found = from.len();
-    if found == 0 {
-        return false;
-    }
-    let unheard = from[0] as usize;
-    let second = 1 + unheard_octets(form, unheard);
-    if found <= second {
-        return false;
-    }
-    let heard = from[second] as usize;
-    if unheard + heard > SLOTS {
-        return false;
-    }
-    found == second + 1 + heard_octets(form, heard)
+// Octets that have the shape of a form, and their counts: how many entries are not heard, and how many there are in all.
+#[derive(Clone, Copy)]
+pub(crate) struct Octets<'a> {
+    form: Form,
+    from: &'a [u8],
+    unheard: usize,
+    total: usize,
+    ghost octets: { AreOctets from.now },
+    ghost long: { form_long form from.now ≡ length from.now },
+    ghost first: { unheard ≡ first_count form from.now },
+    ghost all: { total ≡ first_count form from.now + second_count form from.now },
+    ghost few: { total ≤ 8 },
 }
 
-// Each entry's flag is 0 or 1.
-pub(crate) fn flags_fit(form: Form, from: &[u8], unheard: usize, total: usize) -> bool
-    requires { Shaped form from.now × (unheard ≡ first_count form from.now) × (total ≡ first_count form from.now + second_count form from.now) }
-    ensures { Tells result (Flagged form from.now) }
-{
-    let mut i: usize = 0;
-    while i < total {
-        if flag_at(form, from, place_of(form, unheard, i) + 3) > 1 {
-            return false;
+impl<'a> Octets<'a> {
+    // None where the octets do not have the shape: at most eight entries, and as many octets as the two counts say.
+    pub(crate) fn shaped(form: Form, from: &'a [u8]) -> Option<Octets<'a>>
+        ensures { MatchOption result (Shaped form from.now → ⊥) (λ found. (found.form ≡ form) × (found.from.now ≡ from.now)) }
+    {
+        let unheard = usize::from(*from.first()?);
+        let second = 1 + entries_len(form, Section::Unheard, unheard);
+        let heard = usize::from(*from.get(second)?);
+        let total = unheard + heard;
+        if total > SLOTS {
+            return None;
         }
-        i += 1;
+        if from.len() != second + 1 + entries_len(form, Section::Heard, heard) {
+            return None;
+        }
+        Some(Octets {
+            form,
+            from,
+            unheard,
+            total,
+        })
     }
-    true
-}
 
-// All entries, in slots from the first on.
-pub(crate) fn read_all(form: Form, from: &[u8], unheard: usize, total: usize) -> ChannelRecord
-    requires { Shaped form from.now × (unheard ≡ first_count form from.now) × (total ≡ first_count form from.now + second_count form from.now) }
-    ensures { result ≡ restored (entries_of_octets form from.now) }
-{
-    let mut next = ChannelRecord::new();
-    let mut i: usize = 0;
-    while i < total {
-        let state = entry_at(form, from, unheard, i);
-        next.slots[i] = Slot { state };
-        i += 1;
+    // Each entry's flag is 0 or 1.
+    pub(crate) fn flags_fit(&self) -> bool
+        ensures { Tells result (Flagged self.now.form self.now.from.now) }
+    {
+        (0..self.total).all(|i| self.flag_fits(i))
     }
-    next
-}
 
-// Entry i, where the first are not heard.
-fn entry_at(form: Form, from: &[u8], unheard: usize, i: usize) -> SlotState
-    requires { Shaped form from.now × (unheard ≡ first_count form from.now) × (i < first_count form from.now + second_count form from.now) }
-    ensures { result ≡ get_or (entries_of_octets form from.now) i SlotState.Closed }
-{
-    let at = place_of(form, unheard, i);
-    if i < unheard {
-        return read_unheard(form, from, at);
+    fn flag_fits(&self, i: usize) -> bool
+        requires { i < self.now.total }
+        ensures { Tells result (FlagFits self.now.form (drop (place_of self.now.form self.now.unheard i) self.now.from.now)) }
+    {
+        flag_at(self.form, self.from, self.place_of(i) + 3) <= 1
     }
-    read_heard(form, from, at)
-}
 
-// Where entry i begins.
-fn place_of(form: Form, unheard: usize, i: usize) -> usize
-    requires { (unheard < 256) × (i < 256) }
-    ensures { (result ≡ place_of form unheard i) × (result < 12802) }
-{
-    if i < unheard {
-        return 1 + unheard_octets(form, i);
+    // All entries, in slots from the first on.
+    pub(crate) fn read_all(&self) -> ChannelRecord
+        ensures { result ≡ restored (entries_of_octets self.now.form self.now.from.now) }
+    {
+        let mut next = ChannelRecord::new();
+        for i in 0..self.total {
+            next.slots[i].state = self.entry(i);
+        }
+        next
     }
-    2 + unheard_octets(form, unheard) + heard_octets(form, i - unheard)
-}
 
-fn read_unheard(form: Form, from: &[u8], at: usize) -> SlotState
-    requires { at + unheard_long form ≤ length from.now }
-    ensures { result ≡ unheard_in form (drop at from.now) }
-{
-    let channel = channel_at(form, from, at);
-    let flag = flag_len(form);
-    SlotState::Opened {
-        channel,
-        width: from[at + 3 + flag],
+    fn entry(&self, i: usize) -> SlotState
+        requires { i < self.now.total }
+        ensures { result ≡ get_or (entries_of_octets self.now.form self.now.from.now) i SlotState.Closed }
+    {
+        let at = self.place_of(i);
+        let channel = channel_at(self.form, self.from, at);
+        let width_at = at + 3 + flag_len(self.form);
+        let width = self.from[width_at];
+        if i < self.unheard {
+            return SlotState::Opened { channel, width };
+        }
+        SlotState::Heard {
+            channel,
+            width,
+            totals: totals_at(self.from, width_at + 1),
+        }
     }
-}
 
-fn read_heard(form: Form, from: &[u8], at: usize) -> SlotState
-    requires { at + heard_long form ≤ length from.now }
-    ensures { result ≡ heard_in form (drop at from.now) }
-{
-    let channel = channel_at(form, from, at);
-    let flag = flag_len(form);
-    let totals = totals_at(from, at + 4 + flag);
-    SlotState::Heard {
-        channel,
-        width: from[at + 3 + flag],
-        totals,
+    // Where entry i begins.
+    fn place_of(&self, i: usize) -> usize
+        requires { i < self.now.total }
+        ensures { (result ≡ place_of self.now.form self.now.unheard i) × (result < 12802) }
+    {
+        if i < self.unheard {
+            return 1 + entries_len(self.form, Section::Unheard, i);
+        }
+        2 + entries_len(self.form, Section::Unheard, self.unheard)
+            + entries_len(self.form, Section::Heard, i - self.unheard)
+    }
+
+    // Each of the entries, read into these slots, is as a good form asks.
+    pub(crate) fn admits(&self, channels: ChannelRecord) -> bool
+        ensures { Tells result (AllAdmitted self.now.form channels self.now.unheard self.now.total) }
+    {
+        (0..self.total).all(|i| self.admits_slot(channels, i))
+    }
+
+    // The entry in slot i is one that calls make, stands above the one before it in its section, and no slot before it holds its channel.
+    fn admits_slot(&self, channels: ChannelRecord, i: usize) -> bool
+        requires { i < 8 }
+        ensures { Tells result (Admitted self.now.form channels self.now.unheard i) }
+    {
+        let state = channels.slots[i].state;
+        sound(state) && self.is_above(channels, i) && is_first(channels, i, state)
+    }
+
+    fn is_above(&self, channels: ChannelRecord, i: usize) -> bool
+        requires { i < 8 }
+        ensures { Tells result (Above self.now.form channels self.now.unheard i) }
+    {
+        let slots = channels.slots;
+        i == 0
+            || i == self.unheard
+            || rank_of(self.form, slots[i - 1].state) < rank_of(self.form, slots[i].state)
     }
 }
 
@@ -119,9 +140,9 @@ fn channel_at(form: Form, from: &[u8], at: usize) -> Channel
 {
     let flag = flag_at(form, from, at + 3);
     Channel {
-        spacecraft_id: be_u16(from[at], from[at + 1]),
+        spacecraft_id: u16::from_be_bytes([from[at], from[at + 1]]),
         vc_id: from[at + 2],
-        sequence_control_flag: BypassSequenceControlFlag::from_number(flag),
+        sequence_control_flag: BypassSequenceControlFlag::from(flag),
     }
 }
 
@@ -146,72 +167,16 @@ fn eight_at(from: &[u8], at: usize) -> u64
     be_number(&from[at..at + 8])
 }
 
-// Each of the entries is as a good form asks.
-pub(crate) fn all_admitted(
-    channels: ChannelRecord,
-    form: Form,
-    unheard: usize,
-    total: usize,
-) -> bool
-    requires { total ≤ 8 }
-    ensures { Tells result (AllAdmitted form channels unheard total) }
-{
-    let mut i: usize = 0;
-    while i < total {
-        if !admitted(channels, form, unheard, i) {
-            return false;
-        }
-        i += 1;
-    }
-    true
-}
-
-// The entry in slot i is one that calls make, stands above the one before it in its section, and no slot before it holds its channel.
-fn admitted(channels: ChannelRecord, form: Form, unheard: usize, i: usize) -> bool
-    requires { i < 8 }
-    ensures { Tells result (Admitted form channels unheard i) }
-{
-    let slots = channels.slots;
-    let slot = slots[i];
-    let state = slot.state;
-    if !sound(state) {
-        return false;
-    }
-    if !above(channels, form, unheard, i) {
-        return false;
-    }
-    is_first(channels, i, state)
-}
-
-fn above(channels: ChannelRecord, form: Form, unheard: usize, i: usize) -> bool
-    requires { i < 8 }
-    ensures { Tells result (Above form channels unheard i) }
-{
-    if i == 0 {
-        return true;
-    }
-    if i == unheard {
-        return true;
-    }
-    let slots = channels.slots;
-    let slot = slots[i];
-    let state = slot.state;
-    let before = slots[i - 1];
-    let lower = before.state;
-    rank_of(form, lower) < rank_of(form, state)
-}
-
+#[tactic(auto, using(crate::proofs::Telling::first_open))]
 fn is_first(channels: ChannelRecord, i: usize, state: SlotState) -> bool
+    requires { i < 8 }
     ensures { Tells result (FirstAt channels i state) }
 {
     match state {
         SlotState::Closed => true,
-        SlotState::Opened { channel, width: _ } => search(channels, channel) == i,
-        SlotState::Heard {
-            channel,
-            width: _,
-            totals: _,
-        } => search(channels, channel) == i,
+        SlotState::Opened { channel, .. } | SlotState::Heard { channel, .. } => {
+            channels.search(channel) == Some(i)
+        }
     }
 }
 
@@ -226,45 +191,27 @@ fn sound(state: SlotState) -> bool
             channel,
             width,
             totals,
-        } => {
-            if !openable(channel, width) {
-                return false;
-            }
-            sound_totals(width, totals)
-        }
+        } => openable(channel, width) && sound_totals(width, totals),
     }
 }
 
 fn openable(channel: Channel, width: u8) -> bool
     ensures { Tells result (Openable channel width) }
 {
-    if channel.vc_id > MAX_VC_ID {
-        return false;
-    }
-    if width == 0 {
-        return false;
-    }
-    width <= MAX_COUNT_LEN
+    channel.vc_id <= MAX_VC_ID && 0 < width && width <= MAX_COUNT_LEN
 }
 
+#[tactic(auto, using(uslp_record::proofs::Count::counts_shift))]
 fn sound_totals(width: u8, totals: Totals) -> bool
     requires { width ≤ 7 }
     ensures { Tells result (SoundTotals width totals) }
 {
-    if totals.last >= 1 << (8 * width) {
+    // In two steps: the check finds no proof of one conjunction of all six.
+    if totals.last >= 1 << (8 * width) || totals.handed_on == 0 {
         return false;
     }
-    if totals.handed_on == 0 {
-        return false;
-    }
-    if totals.handed_on > MOST {
-        return false;
-    }
-    if totals.missing > MOST {
-        return false;
-    }
-    if totals.repeats > MOST {
-        return false;
-    }
-    totals.late <= MOST
+    totals.handed_on <= MOST
+        && totals.missing <= MOST
+        && totals.repeats <= MOST
+        && totals.late <= MOST
 }

@@ -1,10 +1,10 @@
 -- Laws of texts that are told in a buffer: one behind another, nothing, and all of one that has its room.
 use mathlib.Core.Path.{◌≡◌, refl, ap, ap₂, sym, subst, ◌∙◌}
-use Prim.Native.Nat.{ℕ, zero, suc, ◌+◌, ◌-◌, ◌≤◌, min}
+use Prim.Native.Nat.{ℕ, zero, suc, ◌+◌, ◌≤◌, min}
 use mathlib.Core.List.{List, [], ◌∷◌, ◌++◌, append-nil}
 use native.Mathlib.Omega.{arith}
 use native.Mathlib.Nat.{zero-min, min-zero, suc-min-suc, zero-add, suc-add, add-zero}
-use lib.ListN.{length, take, drop, length-append, length-take, length-drop, take-append-drop, drop_of_length-le}
+use lib.ListN.{length, take, drop, length-append, length-take, length-drop, take-append-drop}
 use lib.Seq.{take_all}
 use Rattle.uslp_octets.specs.Octets.{overlaid}
 use Rattle.uslp_text.specs.Text.{Told}
@@ -90,28 +90,3 @@ told_nothing {s} {at} h =
 pub told_whole : {t s left : List ℕ} {end : ℕ} → length t ≤ length s → Told t 0 s end left → (end ≡ length t) × (left ≡ t ++ drop (length t) s)
 told_whole {t} {s} {left} {end} h p =
     (omega (arith, p.ends), p.stands ∙ ap (λ (x : List ℕ). x ++ drop (length t) s) (take_all (length s) t h))
-
--- a text put into the part of the buffer from the place on
-pub told_part : (t s ys : List ℕ) (at end n : ℕ) → n ≡ length s - at → ys ≡ overlaid t (take n (drop at s)) → end ≡ min (at + length t) (length s)
-    → Told t at s end (take at s ++ (ys ++ drop n (drop at s)))
-told_part t s ys at end n e h ends =
-    let long : length (drop at s) ≤ n = omega (arith, length-drop at s) in
-    record {
-      ends = ends;
-      stands =
-          ap₂ (λ (a b : List ℕ). take at s ++ (a ++ b))
-          (h ∙ ap (overlaid t) (take_all n (drop at s) long))
-          (drop_of_length-le (drop at s) {i = n} long)
-          ∙ ap (λ (x : List ℕ). take at s ++ x) (append-nil (overlaid t (drop at s)));
-    }
-
--- and where the place stands behind the buffer, nothing is put
-pub told_past : (t s : List ℕ) (at : ℕ) → length s ≤ at → Told t at s (length s) s
-told_past t s at h =
-    record {
-      ends = omega arith;
-      stands =
-          sym (ap₂ (λ (a b : List ℕ). a ++ overlaid t b) (take_all at s h) (drop_of_length-le s {i = at} h)
-          ∙ ap (λ (x : List ℕ). s ++ x) (overlaid_nil t)
-          ∙ append-nil s);
-    }

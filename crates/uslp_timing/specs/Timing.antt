@@ -1,11 +1,7 @@
 -- Outcomes as numbers, for a caller that is not Rattle.
-use Rattle.std.specs.Prelude.{ℕ, true, false, cond, List, [], ◌∷◌}
+use Rattle.std.specs.Prelude.{ℕ, true, false, cond, List, [], ◌∷◌, Option, Some, None}
 use Rattle.uslp_kinds.specs.Outcome.{Outcome, done, refused, Written, leaving}
 use Rattle.uslp_kinds.specs.Kinds.{source_or_dest_number, bypass_number, command_number, rule_number, protocol_number}
-use Rattle.uslp_kinds.specs.declared.FhpOrLvo.{FhpOrLvo}
-use Rattle.uslp_kinds.specs.declared.FhpOrLvo.TheVariants as pointer
-use Rattle.uslp_kinds.specs.declared.OperationalControlField.{OperationalControlField}
-use Rattle.uslp_kinds.specs.declared.OperationalControlField.TheVariants as ocf
 use Rattle.uslp_kinds.specs.declared.SourceOrDestField.TheVariants.{Dest}
 use Rattle.uslp_kinds.specs.declared.BypassSequenceControlFlag.TheVariants.{SequenceControlledQoS}
 use Rattle.uslp_kinds.specs.declared.ProtocolControlCommandFlag.TheVariants.{TfdfContainsUserData}
@@ -15,13 +11,13 @@ use Rattle.uslp_reader.specs.declared.TransferFrame.{TransferFrame}
 use Rattle.uslp_writer.specs.declared.TransferFrameCreator.{TransferFrameCreator}
 
 -- none is told by the first number that is too large
-abbrev pub pointer_number : FhpOrLvo → ℕ
-pointer_number pointer.Absent = 0x10000
-pointer_number (pointer.Present p) = p
+abbrev pub pointer_number : Option ℕ → ℕ
+pointer_number None = 0x10000
+pointer_number (Some p) = p
 
-abbrev pub ocf_number : OperationalControlField → ℕ
-ocf_number ocf.Absent = 0x100000000
-ocf_number (ocf.Present o) = o
+abbrev pub ocf_number : Option ℕ → ℕ
+ocf_number None = 0x100000000
+ocf_number (Some o) = o
 
 -- all that a frame says
 abbrev pub numbers_of : TransferFrame → List ℕ
@@ -69,8 +65,8 @@ timed spacecraft channel map width count =
         vc_frame_count_len = width;
         vc_frame_count = count;
       };
-      data_field_header = record { construction_rule = NoSegmentation; uslp_protocol_id = UserDefinedOctetStream; fhp_or_lvo = pointer.Absent };
-      operational_control_field = ocf.Absent;
+      data_field_header = record { construction_rule = NoSegmentation; uslp_protocol_id = UserDefinedOctetStream; fhp_or_lvo = None };
+      operational_control_field = None;
       has_fecf = true;
     }
 

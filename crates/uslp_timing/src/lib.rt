@@ -1,4 +1,5 @@
-// The checksum, a reading and a writing with outcomes as numbers, as C calls them: `uslp_timing_c` exports each under its name.
+// The checksum, a reading and a writing. Outcomes are numbers, since the C interface takes no Result: `uslp_timing_c` exports each
+// under its name.
 #![tactic(auto)]
 
 ghost use Rattle.std.specs.Prelude.{◌≡◌};
@@ -6,16 +7,16 @@ ghost use Rattle.uslp_checksum.specs.Checksum.{checksum_of};
 ghost use Rattle.uslp_kinds.specs.Managed.{fecf};
 ghost use Rattle.uslp_reader.specs.Reader.{frame_reading};
 ghost use Rattle.uslp_writer.specs.Frame.{frame_writing};
-ghost use Rattle.uslp_timing.specs.Timing.{pointer_number, ocf_number, numbers_of, told, numbers_found, timed, length_told, octets_left};
+ghost use Rattle.uslp_timing.specs.Timing.{numbers_of, told, numbers_found, timed, length_told, octets_left};
 
 use uslp_checksum::checksum;
 use uslp_data_field_header::TransferFrameDataFieldHeader;
 use uslp_kinds::{
-    BypassSequenceControlFlag, ConstructionRule, FhpOrLvo, LengthAnswer, OperationalControlField,
-    ProtocolControlCommandFlag, SourceOrDestField, UslpProtocolId, WITH_FECF,
+    BypassSequenceControlFlag, ConstructionRule, ProtocolControlCommandFlag, SourceOrDestField,
+    UslpProtocolId, WITH_FECF,
 };
 use uslp_primary_header::PrimaryHeader;
-use uslp_reader::{FrameAnswer, TransferFrame};
+use uslp_reader::TransferFrame;
 use uslp_writer::TransferFrameCreator;
 
 pub fn uslp_timing_checksum(message: &[u8]) -> u16
@@ -30,11 +31,11 @@ pub fn uslp_timing_read(octets: &[u8], found: &mut [u64; 16]) -> u8
         × (found.new ≡ numbers_found (frame_reading octets.now fecf) found.old) }
 {
     match TransferFrame::from_bytes(octets, WITH_FECF) {
-        FrameAnswer::Done(frame) => {
+        Ok(frame) => {
             *found = numbers_of(frame);
             0
         }
-        FrameAnswer::Refused(refusal) => refusal.number(),
+        Err(refusal) => refusal.number(),
     }
 }
 
@@ -51,11 +52,9 @@ pub fn uslp_timing_write(
     ensures { (result ≡ length_told (frame_writing (timed spacecraft_id vc_id map_id width count) «data».now buf.old))
         × (buf.new ≡ octets_left (frame_writing (timed spacecraft_id vc_id map_id width count) «data».now buf.old)) }
 {
-    let frame = frame_with(spacecraft_id, vc_id, map_id, width, count);
-    match frame.write_to_slice(data, buf) {
-        LengthAnswer::Done(total) => total,
-        LengthAnswer::Refused(refusal) => 0,
-    }
+    frame_with(spacecraft_id, vc_id, map_id, width, count)
+        .write_to_slice(data, buf)
+        .unwrap_or(0)
 }
 
 fn frame_with(
@@ -83,9 +82,9 @@ fn frame_with(
         data_field_header: TransferFrameDataFieldHeader {
             construction_rule: ConstructionRule::NoSegmentation,
             uslp_protocol_id: UslpProtocolId::UserDefinedOctetStream,
-            fhp_or_lvo: FhpOrLvo::Absent,
+            fhp_or_lvo: None,
         },
-        operational_control_field: OperationalControlField::Absent,
+        operational_control_field: None,
         has_fecf: true,
     }
 }
@@ -95,47 +94,24 @@ fn numbers_of(frame: TransferFrame) -> [u64; 16]
 {
     let header = frame.primary_header;
     let field = frame.data_field_header;
-    let source = header.source_or_dest_field;
-    let bypass = header.sequence_control_flag;
-    let command = header.protocol_control_command_flag;
-    let rule = field.construction_rule;
-    let protocol = field.uslp_protocol_id;
-    let pointer = field.fhp_or_lvo;
-    let ocf = frame.operational_control_field;
     [
-        header.spacecraft_id as u64,
-        source.number() as u64,
-        header.vc_id as u64,
-        header.map_id as u64,
-        header.frame_len_field as u64,
-        bypass.number() as u64,
-        command.number() as u64,
-        header.ocf_flag as u64,
-        header.vc_frame_count_len as u64,
+        u64::from(header.spacecraft_id),
+        u64::from(u8::from(header.source_or_dest_field)),
+        u64::from(header.vc_id),
+        u64::from(header.map_id),
+        u64::from(header.frame_len_field),
+        u64::from(u8::from(header.sequence_control_flag)),
+        u64::from(u8::from(header.protocol_control_command_flag)),
+        u64::from(header.ocf_flag),
+        u64::from(header.vc_frame_count_len),
         header.vc_frame_count,
-        rule.number() as u64,
-        protocol.number() as u64,
-        pointer_number(pointer),
-        ocf_number(ocf),
+        u64::from(u8::from(field.construction_rule)),
+        u64::from(u8::from(field.uslp_protocol_id)),
+        field.fhp_or_lvo.map_or(0x1_0000, u64::from),
+        frame
+            .operational_control_field
+            .map_or(0x1_0000_0000, u64::from),
         frame.data_start as u64,
         frame.data_len as u64,
     ]
-}
-
-fn pointer_number(pointer: FhpOrLvo) -> u64
-    ensures { result ≡ pointer_number pointer }
-{
-    match pointer {
-        FhpOrLvo::Absent => 0x1_0000,
-        FhpOrLvo::Present(p) => p as u64,
-    }
-}
-
-fn ocf_number(ocf: OperationalControlField) -> u64
-    ensures { result ≡ ocf_number ocf }
-{
-    match ocf {
-        OperationalControlField::Absent => 0x1_0000_0000,
-        OperationalControlField::Present(o) => o as u64,
-    }
 }

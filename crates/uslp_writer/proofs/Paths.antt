@@ -1,5 +1,5 @@
 -- What `reserving` and `frame_writing` say, path by path: both are one writing, with another answer and other octets.
-use mathlib.Core.Path.{◌≡◌, refl, ap, sym, ◌∙◌}
+use mathlib.Core.Path.{◌≡◌, refl, sym, ◌∙◌}
 use Prim.Native.Nat.{ℕ, ◌<◌, ◌≤◌}
 use mathlib.Core.Bool.{Bool, false}
 use mathlib.Core.List.{List, [], ◌∷◌, ◌++◌}
@@ -10,15 +10,13 @@ use lib.ListN.{length, drop}
 use borrow.Author.Tests.{lt-ltb, le-ltb}
 use Rattle.uslp_kinds.specs.Outcome.{Outcome, done, refused, Written, leaving, only_if_done, first_of}
 use Rattle.uslp_kinds.proofs.Outcomes.{not_done, done_one}
-use Rattle.uslp_kinds.proofs.Back.{back, refusal_back, leaving_one}
+use Rattle.uslp_kinds.proofs.Back.{leaving_one}
 use Rattle.uslp_primary_header.specs.Header.{header_checking}
 use Rattle.uslp_data_field_header.specs.Field.{field_checking}
 use Rattle.uslp_writer.specs.Frame.{total, ocf_missing, frame_checks, frame_length, frame_octets, frame_writing}
-use Rattle.uslp_writer.specs.Reserved.{paper_reserved, reservation, reserved_octets, reserving}
+use Rattle.uslp_writer.specs.Reserved.{reservation, reserved_octets, reserving}
 use Rattle.uslp_writer.specs.declared.TransferFrameCreator.{TransferFrameCreator}
 use Rattle.uslp_writer.specs.declared.TransferFrameCreatorWithReservedData.{TransferFrameCreatorWithReservedData}
-use Rattle.uslp_writer.specs.declared.ReservedAnswer.{ReservedAnswer}
-use Rattle.uslp_writer.specs.declared.ReservedAnswer.TheVariants as reserved_answer
 use Rattle.uslp_writer.proofs.Lengths.{Ready, checks_refused, checks_passed, given_ready}
 
 -- the check of the buffer, behind those of the frame
@@ -137,8 +135,3 @@ module _ (c : TransferFrameCreator) (d s : List ℕ) where
         is_total = sym w.2;
         left = sym w.3;
       }
-
--- an answer on paper has a way back
-pub reserved_back : (r : ReservedAnswer) → back reserved_answer.Done reserved_answer.Refused (paper_reserved r) ≡ r
-reserved_back (reserved_answer.Done k) = refl
-reserved_back (reserved_answer.Refused r) = ap reserved_answer.Refused (refusal_back r)

@@ -2,17 +2,10 @@
 use Rattle.std.specs.Prelude.{ℕ, ◌+◌, ◌-◌, min, true, cond, ◌||◌, List, [], ◌∷◌, ◌++◌, length, take, drop, ltb}
 use Rattle.uslp_octets.specs.Octets.{overlaid}
 use Rattle.uslp_kinds.specs.Outcome.{Outcome, done, refused, and_then, Written, leaving, only_if_done, first_of}
-use Rattle.uslp_kinds.specs.Answers.{refusal}
 use Rattle.uslp_layout.specs.Layout.{data_start, ocf_octets, with_fecf}
 use Rattle.uslp_writer.specs.Frame.{total, header_octets, frame_checks}
 use Rattle.uslp_writer.specs.declared.TransferFrameCreator.{TransferFrameCreator}
 use Rattle.uslp_writer.specs.declared.TransferFrameCreatorWithReservedData.{TransferFrameCreatorWithReservedData}
-use Rattle.uslp_writer.specs.declared.ReservedAnswer.{ReservedAnswer}
-use Rattle.uslp_writer.specs.declared.ReservedAnswer.TheVariants as reserved_answer
-
-abbrev pub paper_reserved : ReservedAnswer → Outcome TransferFrameCreatorWithReservedData
-paper_reserved (reserved_answer.Done k) = done k
-paper_reserved (reserved_answer.Refused r) = refusal r
 
 -- data start, data size, total and FECF
 abbrev pub reservation : TransferFrameCreator → ℕ → TransferFrameCreatorWithReservedData

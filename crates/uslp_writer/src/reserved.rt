@@ -3,38 +3,36 @@ ghost use Rattle.std.specs.Prelude.{◌≡◌, ◌+◌, ◌-◌, ◌≤◌, min,
 ghost use denote.MutBor.{as_bor};
 ghost use Rattle.uslp_octets.specs.Octets.{PartOf};
 ghost use Rattle.uslp_kinds.specs.Outcome.{done, leaving};
-ghost use Rattle.uslp_kinds.specs.Answers.{paper_length};
 ghost use Rattle.uslp_primary_header.specs.Header.{header_checking};
 ghost use Rattle.uslp_data_field_header.specs.Field.{field_checking};
 ghost use Rattle.uslp_layout.specs.Layout.{data_start, ocf_octets, with_fecf};
 ghost use Rattle.uslp_writer.specs.Frame.{completed, frame_length, header_octets};
-ghost use Rattle.uslp_writer.specs.Reserved.{paper_reserved, reservation, reserved_octets, reserving, finish_length, finishing, area_in, area_at, filling};
+ghost use Rattle.uslp_writer.specs.Reserved.{reservation, reserved_octets, reserving, finish_length, finishing, area_in, area_at, filling};
+ghost use Rattle.uslp_kinds.specs.Answers.{paper};
 
-use crate::{
-    ReservedAnswer, TransferFrameCreator, TransferFrameCreatorWithReservedData, with_ocf_flag,
-};
+use crate::{TransferFrameCreator, TransferFrameCreatorWithReservedData, with_ocf_flag};
 use uslp_checksum::checksum;
-use uslp_kinds::{LengthAnswer, MAX_FRAME_LEN, OperationalControlField, Refusal};
+use uslp_kinds::{MAX_FRAME_LEN, Refusal};
 use uslp_layout::{data_start, fecf_len};
 use uslp_octets::{copy_octets, put_be_number};
-use uslp_primary_header::{HeaderAnswer, PrimaryHeader};
+use uslp_primary_header::PrimaryHeader;
 
 impl TransferFrameCreatorWithReservedData {
     // Writes the headers and the OCF; the data area and the FECF's places stay as found.
     // Refuses BAD_FIELD, BAD_COUNT, BAD_POINTER, OCF_MISSING, TOO_LONG, SHORT_TARGET.
-    pub fn new(frame: TransferFrameCreator, data_size: usize, buf: &mut [u8]) -> ReservedAnswer
-        ensures { leaving (paper_reserved result) buf.new ≡ reserving frame data_size buf.old }
+    pub fn new(
+        frame: TransferFrameCreator,
+        data_size: usize,
+        buf: &mut [u8],
+    ) -> Result<TransferFrameCreatorWithReservedData, Refusal>
+        ensures { leaving (paper result) buf.new ≡ reserving frame data_size buf.old }
     {
-        match frame.len_written(data_size) {
-            LengthAnswer::Refused(refusal) => ReservedAnswer::Refused(refusal),
-            LengthAnswer::Done(expected) => {
-                let found = buf.len();
-                if found < expected {
-                    return ReservedAnswer::Refused(Refusal::ShortTarget { found, expected });
-                }
-                ReservedAnswer::Done(put_reserved(frame, data_size, expected, buf))
-            }
+        let expected = frame.len_written(data_size)?;
+        let found = buf.len();
+        if found < expected {
+            return Err(Refusal::ShortTarget { found, expected });
         }
+        Ok(put_reserved(frame, data_size, expected, buf))
     }
 
     pub fn len_written(self) -> usize
@@ -49,14 +47,12 @@ impl TransferFrameCreatorWithReservedData {
         ensures { PartOf buf.entry (area_at self buf.now) (area_in self buf.now) result }
     {
         let found = buf.len();
-        match finish_len(self, found) {
-            LengthAnswer::Refused(_) => &buf[0..0],
-            LengthAnswer::Done(_) => {
-                let start = self.data_index;
-                let end = start + self.data_size;
-                &buf[start..end]
-            }
+        if finish_len(self, found).is_err() {
+            return &buf[0..0];
         }
+        let start = self.data_index;
+        let end = start + self.data_size;
+        &buf[start..end]
     }
 
     // The data area, lent for writing, or nothing where finishing would refuse.
@@ -65,90 +61,70 @@ impl TransferFrameCreatorWithReservedData {
         ensures { PartOf (as_bor buf.entry) (area_at self buf.old) (area_in self buf.old) (as_bor result) }
     {
         let found = buf.len();
-        match finish_len(self, found) {
-            LengthAnswer::Refused(_) => &mut buf[0..0],
-            LengthAnswer::Done(_) => {
-                let start = self.data_index;
-                let end = start + self.data_size;
-                &mut buf[start..end]
-            }
+        if finish_len(self, found).is_err() {
+            return &mut buf[0..0];
         }
+        let start = self.data_index;
+        let end = start + self.data_size;
+        &mut buf[start..end]
     }
 
     // Lays data over the area as far as both reach, and gives how many octets; the rest of the area stays.
     // Refuses as finishing does: TOO_LONG, FRAME_TOO_SHORT, SHORT_TARGET.
     #[tactic(auto, unfolding(crate::specs::Reserved::finish_length))]
-    pub fn fill(self, data: &[u8], buf: &mut [u8]) -> LengthAnswer
-        ensures { leaving (paper_length result) buf.new ≡ filling self «data».now buf.old }
+    pub fn fill(self, data: &[u8], buf: &mut [u8]) -> Result<usize, Refusal>
+        ensures { leaving (paper result) buf.new ≡ filling self «data».now buf.old }
     {
-        match finish_len(self, buf.len()) {
-            LengthAnswer::Refused(refusal) => LengthAnswer::Refused(refusal),
-            LengthAnswer::Done(_) => {
-                let start = self.data_index;
-                let end = start + self.data_size;
-                copy_octets(data, &mut buf[start..end]);
-                LengthAnswer::Done(lesser(data.len(), self.data_size))
-            }
-        }
+        finish_len(self, buf.len())?;
+        let start = self.data_index;
+        let end = start + self.data_size;
+        copy_octets(data, &mut buf[start..end]);
+        Ok(data.len().min(self.data_size))
     }
 
     // Writes the FECF if asked for, and gives the total. Refuses TOO_LONG, FRAME_TOO_SHORT, SHORT_TARGET.
     #[tactic(auto, unfolding(crate::specs::Reserved::finish_length))]
-    pub fn finish(self, buf: &mut [u8]) -> LengthAnswer
-        ensures { leaving (paper_length result) buf.new ≡ finishing self buf.old }
+    pub fn finish(self, buf: &mut [u8]) -> Result<usize, Refusal>
+        ensures { leaving (paper result) buf.new ≡ finishing self buf.old }
     {
-        match finish_len(self, buf.len()) {
-            LengthAnswer::Refused(refusal) => LengthAnswer::Refused(refusal),
-            LengthAnswer::Done(total) => {
-                if self.has_fecf {
-                    put_fecf(total, buf);
-                    return LengthAnswer::Done(total);
-                }
-                LengthAnswer::Done(total)
-            }
+        let total = finish_len(self, buf.len())?;
+        if self.has_fecf {
+            put_fecf(total, buf);
         }
+        Ok(total)
     }
-}
-
-fn lesser(a: usize, b: usize) -> usize
-    ensures { result ≡ min a b }
-{
-    if a < b { a } else { b }
 }
 
 // The total that finishing gives for a buffer of this length.
 #[tactic(auto, unfolding(crate::specs::Reserved::finish_length))]
-fn finish_len(frame: TransferFrameCreatorWithReservedData, found: usize) -> LengthAnswer
-    ensures { paper_length result ≡ finish_length frame found }
+fn finish_len(frame: TransferFrameCreatorWithReservedData, found: usize) -> Result<usize, Refusal>
+    ensures { paper result ≡ finish_length frame found }
 {
     let total = frame.len_written;
-    if total > MAX_FRAME_LEN {
-        return LengthAnswer::Refused(Refusal::TooLong);
-    }
     // tested one by one, so that no sum can wrap
-    if frame.data_index > MAX_FRAME_LEN {
-        return LengthAnswer::Refused(Refusal::TooLong);
-    }
-    if frame.data_size > MAX_FRAME_LEN {
-        return LengthAnswer::Refused(Refusal::TooLong);
+    if total > MAX_FRAME_LEN
+        || frame.data_index > MAX_FRAME_LEN
+        || frame.data_size > MAX_FRAME_LEN
+    {
+        return Err(Refusal::TooLong);
     }
     let needed = frame.data_index + frame.data_size + fecf_len(frame.has_fecf);
     if needed > MAX_FRAME_LEN {
-        return LengthAnswer::Refused(Refusal::TooLong);
+        return Err(Refusal::TooLong);
     }
     if total < needed {
-        return LengthAnswer::Refused(Refusal::FrameTooShort {
+        return Err(Refusal::FrameTooShort {
             length: total,
             needed,
         });
     }
     if found < total {
-        return LengthAnswer::Refused(Refusal::ShortTarget {
+        return Err(Refusal::ShortTarget {
             found,
             expected: total,
         });
     }
-    LengthAnswer::Done(total)
+    Ok(total)
 }
 
 // The checksum of all octets before them, into the last two of the total.
@@ -158,7 +134,7 @@ fn put_fecf(total: usize, buf: &mut [u8])
 {
     let end = total - 2;
     let sum = checksum(&buf[0..end]);
-    put_be_number(sum as u64, &mut buf[end..total]);
+    put_be_number(u64::from(sum), &mut buf[end..total]);
 }
 
 // Headers and OCF of a frame that has passed its checks.
@@ -173,8 +149,7 @@ fn put_reserved(
 {
     let start = put_headers(frame, total, buf);
     let end = start + data_size;
-    let ocf = frame.operational_control_field;
-    put_ocf(ocf, end, buf);
+    put_ocf(frame.operational_control_field, end, buf);
     TransferFrameCreatorWithReservedData {
         data_index: start,
         data_size,
@@ -195,8 +170,9 @@ fn put_headers(frame: TransferFrameCreator, total: usize, buf: &mut [u8]) -> usi
     let header = completed_header(frame, total);
     let field = frame.data_field_header;
     let at = header.len_header();
-    header.write_to_slice(buf);
-    field.write_to_slice(&mut buf[at..]);
+    // both have passed their checks, and the buffer has their room
+    let _ = header.write_to_slice(buf);
+    let _ = field.write_to_slice(&mut buf[at..]);
     data_start(header, field)
 }
 
@@ -208,17 +184,17 @@ fn completed_header(frame: TransferFrameCreator, total: usize) -> PrimaryHeader
 {
     let header = with_ocf_flag(frame);
     match header.with_frame_len(total) {
-        HeaderAnswer::Done(completed) => completed,
-        HeaderAnswer::Refused(_) => header,
+        Ok(completed) => completed,
+        Err(_) => header,
     }
 }
 
-fn put_ocf(ocf: OperationalControlField, at: usize, buf: &mut [u8])
+fn put_ocf(ocf: Option<u32>, at: usize, buf: &mut [u8])
     requires { at + length (ocf_octets ocf) ≤ length buf.old }
     ensures { buf.new ≡ take at buf.old ++ (ocf_octets ocf ++ drop (at + length (ocf_octets ocf)) buf.old) }
 {
-    if let OperationalControlField::Present(value) = ocf {
+    if let Some(value) = ocf {
         let end = at + 4;
-        put_be_number(value as u64, &mut buf[at..end]);
+        put_be_number(u64::from(value), &mut buf[at..end]);
     }
 }

@@ -1,10 +1,7 @@
--- After i turns the register was fed the first i octets.
-use Rattle.std.proofs.Common.{◌≡◌, ◌≤◌, ◌-◌, length, take}
+-- The register was fed the octets passed.
+use Rattle.std.proofs.Common.{◌≡◌, take}
 use Rattle.uslp_checksum.specs.Checksum.{checksum_of}
 use Rattle.uslp_checksum.proofs.checksum_bitwise.Given as goal
 
-abbrev pub invariant-loop-i : goal.invariant-loop-i
-invariant-loop-i l = (l.i ≤ length l.message) × (l.current ≡ checksum_of (take l.i l.message))
-
-abbrev pub decreases-loop-i : goal.decreases-loop-i
-decreases-loop-i l = length l.message - l.i
+abbrev pub invariant-loop-octet : goal.invariant-loop-octet
+invariant-loop-octet l = l.current ≡ checksum_of (take l.octet-index l.message)

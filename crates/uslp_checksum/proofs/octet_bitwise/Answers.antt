@@ -9,14 +9,12 @@ use Rattle.uslp_checksum.proofs.octet_bitwise.Goals.{then-current-ne0, else-curr
 
 pub loop-k-preserved : goal.loop-k-preserved
 loop-k-preserved c =
-    let l = c.loop-k in (
-      omega arith,
-      elim c.if-current-ne0.branch [
-        | then-current-ne0 w ↦ w.current-is ∙ moved_set l.current w.if-current-ne0.true
-        | else-current-ne0 w ↦ w.current-is ∙ moved_clear l.current w.if-current-ne0.false
-      ]
-          ∙ ap zstep l.invariant.1 ∙ sym (zsteps_last l.k _),
-    )
+    let l = c.loop-k in
+    elim c.if-current-ne0.branch [
+      | then-current-ne0 w ↦ w.current-is ∙ moved_set l.current w.if-current-ne0.true
+      | else-current-ne0 w ↦ w.current-is ∙ moved_clear l.current w.if-current-ne0.false
+    ]
+    ∙ ap zstep l.invariant ∙ sym (zsteps_last l.k _)
 
 pub returns : goal.returns
 returns c =
@@ -24,6 +22,6 @@ returns c =
     let o = c.args.octet in
     let high : o * 256 % 2 ^ 16 ≡ o * 256 = mod-eq_of_lt (omega arith) in
     let all : c.loop-k.k ≡ 8 = omega arith in
-    c.loop-k.invariant.1 ∙ ap (λ (k : ℕ). zsteps k (bit_xor r (o * 256 % 2 ^ 16))) all
+    c.loop-k.invariant ∙ ap (λ (k : ℕ). zsteps k (bit_xor r (o * 256 % 2 ^ 16))) all
     ∙ ap (λ (x : ℕ). zsteps 8 (bit_xor r x)) high
     ∙ sym (feed_octet r o (omega arith))

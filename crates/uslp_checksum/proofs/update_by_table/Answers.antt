@@ -8,24 +8,23 @@ use Rattle.uslp_checksum.proofs.Table.{Good, right, entry}
 use Rattle.uslp_checksum.proofs.update_by_table.Goals as goal
 
 -- the last part is the one computed test of the table: every entry is right
-pub loop-i-init : goal.loop-i-init
+pub loop-octet-init : goal.loop-octet-init
 unfolding bits feed Good right lows step bit
-loop-i-init c = (omega arith, refl, tt)
+loop-octet-init c = (refl, tt)
 
-pub loop-i-preserved : goal.loop-i-preserved
-loop-i-preserved c =
+pub loop-octet-preserved : goal.loop-octet-preserved
+loop-octet-preserved c =
     let r = c.args.register in
     let m = c.args.message.now in
-    let l = c.loop-i in
-    let o : ℕ = get_or m l.i 0 in
-    let octet : o < 256 = omega (arith, c.type_inv.message l.i) in
+    let l = c.loop-octet in
+    let o : ℕ = get_or m l.octet-index 0 in
+    let octet : o < 256 = omega (arith, c.type_inv.message l.octet-index) in
     let k : ℕ = bit_xor (l.current / 256) o in
     let place : k < 256 = xor_lt 8 (l.current / 256) o (omega arith) octet in (
-      omega arith,
-      ap (bit_xor (l.current * 256 % 2 ^ 16)) (entry _ l.invariant.2 k place place)
+      ap (bit_xor (l.current * 256 % 2 ^ 16)) (entry _ l.invariant.1 k place place)
           ∙ sym (by_table l.current o)
           ∙ sym (feed_octet l.current o octet)
-          ∙ ap (λ (x : ℕ). feed x (lows 8 o)) l.invariant.1
-          ∙ sym (feed_more r m l.i (omega arith)),
-      l.invariant.2,
+          ∙ ap (λ (x : ℕ). feed x (lows 8 o)) l.invariant.0
+          ∙ sym (feed_more r m l.octet-index (omega arith)),
+      l.invariant.1,
     )

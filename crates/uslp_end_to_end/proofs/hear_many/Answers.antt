@@ -1,85 +1,57 @@
--- The ways that meet behind a frame: its slot takes it, or refuses it, or there is no slot.
-use Rattle.std.proofs.Common.{arith, ◌≡◌, refl, ap, sym, ◌∙◌, subst, List, ℕ, [], take, drop}
-use Rattle.uslp_octets.specs.Octets.{AreOctets}
-use Rattle.uslp_octets.proofs.Laws.{are_take, are_drop}
-use Rattle.uslp_kinds.specs.Outcome.{done, refused}
-use Rattle.uslp_kinds.specs.Answers.{carried}
+-- A frame is heard and counted, and carries the loop on; a refusal and the end complete the whole.
+use Rattle.std.proofs.Common.{arith, ◌≡◌, ◌-◌, refl, ap, sym, ◌∙◌, List, ℕ, length, take, drop}
+use Rattle.std.specs.Prelude.{Result}
+use Rattle.uslp_octets.proofs.Laws.{are_drop}
+use Rattle.uslp_kinds.specs.Answers.{paper}
+use Rattle.uslp_kinds.specs.declared.ManagedParameters.{ManagedParameters}
+use Rattle.uslp_kinds.specs.declared.Refusal.{Refusal}
 use Rattle.uslp_primary_header.specs.Header.{len_frame}
-use Rattle.uslp_reader.specs.Reader.{paper_frame, frame_reading}
+use Rattle.uslp_reader.specs.Reader.{frame_reading}
+use Rattle.uslp_reader.specs.declared.TransferFrame.{TransferFrame}
 use Rattle.uslp_reader.proofs.Parts.{rest_part}
 use Rattle.uslp_reader.proofs.Own.{own_octets}
-use Rattle.uslp_record.specs.Slots.{find}
-use Rattle.uslp_record.specs.Judging.{paper_slot}
-use Rattle.uslp_record.specs.declared.Channel.{Channel}
-use Rattle.uslp_record.specs.declared.ChannelRecord.{ChannelRecord}
-use Rattle.uslp_record.proofs.Sums.{gap_of, slot_gap_fits}
-use Rattle.uslp_hearing.proofs.Ways.{channel}
-use Rattle.uslp_end_to_end.specs.Many.{plus, tally_of}
-use Rattle.uslp_end_to_end.specs.declared.Tally.{Tally}
-use Rattle.uslp_end_to_end.proofs.Walk.{Stepped, stepped_none, stepped_done, stepped_refused, goes_refused, goes_all, heard_small, heard_more}
+use Rattle.uslp_record.specs.declared.Arrival.{Arrival}
+use Rattle.uslp_hearing.proofs.Ways.{read_narrow, read_fits}
+use Rattle.uslp_end_to_end.proofs.Walk.{gap_in, counted, stepped, goes_refused, goes_all, heard_small, heard_more}
 use Rattle.uslp_end_to_end.proofs.hear_many.Goals as goal
-use Rattle.uslp_end_to_end.proofs.hear_many.Goals.{then-at-lt-SLOTS+in-Done-judge_in, then-at-lt-SLOTS+in-Refused-judge_in, else-at-lt-SLOTS}
 
-pub arrived-tally-requires : goal.arrived-tally-requires
-arrived-tally-requires c = (
-  heard_small c.loop-place.invariant (omega arith),
-  λ gap e. omega (arith, slot_gap_fits _ _ _ _ (sym c.judge_in.ensures ∙ ap paper_slot c.in-Done-judge_in.is), ap gap_of e),
-)
+-- an answer to the reading at the place names what stands there
+answered : (s : List ℕ) (place : ℕ) (managed : ManagedParameters) {r a : Result TransferFrame Refusal}
+    → paper r ≡ frame_reading (take (length s - place) (drop place s)) managed → r ≡ a → frame_reading (drop place s) managed ≡ paper a
+answered s place managed e is = ap (λ (t : List ℕ). frame_reading t managed) (sym (rest_part s place place refl)) ∙ sym e ∙ ap paper is
 
-pub passed-tally-requires : goal.passed-tally-requires
-passed-tally-requires c = heard_small c.loop-place.invariant (omega arith)
+pub hear_in-requires : goal.hear_in-requires
+hear_in-requires c =
+    let whole = c.args.buf.now in
+    let there = are_drop c.loop-place.place whole (λ i. omega (arith, c.type_inv.buf i)) in
+    let read = answered whole c.loop-place.place c.args.managed c.from_bytes.ensures c.in-Ok.is in
+    (read_narrow _ _ _ read, read_fits _ _ _ there read)
 
-pub passed-tally-requires-else-at-lt-SLOTS : goal.passed-tally-requires-else-at-lt-SLOTS
-passed-tally-requires-else-at-lt-SLOTS c = heard_small c.loop-place.invariant (omega arith)
+pub count-requires : goal.count-requires
+count-requires c =
+    let l = c.loop-place in
+    let whole = c.args.buf.now in
+    let there = are_drop l.place whole (λ i. omega (arith, c.type_inv.buf i)) in
+    let read = answered whole l.place c.args.managed c.from_bytes.ensures c.in-Ok.is in
+    let after = counted c.in-Ok.frame l.next l.invariant.eight _ _ there read c.hear_in.ensures in
+    (heard_small l.invariant (omega arith), λ gap e. omega (arith, after.fits, ap (λ (r : Result Arrival Refusal). gap_in (paper r)) e))
 
 pub loop-place-preserved : goal.loop-place-preserved
 loop-place-preserved c =
-    let managed = c.args.managed in
-    let whole = c.args.buf.now in
     let l = c.loop-place in
-    let f = c.in-Done.frame in
-    let rest = drop l.place whole in
-    let s = take (len_frame f.primary_header) rest in
-    let there : AreOctets rest = are_drop l.place whole (λ i. omega (arith, c.type_inv.buf i)) in
-    let read : frame_reading rest managed ≡ done f =
-    ap (λ (t : List ℕ). frame_reading t managed) (sym (rest_part whole l.place l.place refl))
-    ∙ sym c.from_bytes.ensures ∙ ap paper_frame c.in-Done.is in
-    let own = own_octets rest managed f there read in
-    let are = are_take (len_frame f.primary_header) rest there in
-    let i = c.search-at.result in
-    let found : i ≡ find (channel f) l.next.slots =
-    c.search-at.ensures ∙ ap (λ (k : Channel). find k l.next.slots) c.channel_of.ensures in
-    let met = c.if-at-lt-SLOTS in
-    let stepped : Stepped managed s l.tally l.next met.tally met.next =
-    elim met.branch [
-      | then-at-lt-SLOTS+in-Done-judge_in w ↦
-          subst (λ (u : Tally). Stepped managed s l.tally l.next u met.next) (sym w.tally-is)
-          (subst (λ (q : ChannelRecord). Stepped managed s l.tally l.next w.arrived-tally.result q) (sym w.next-is)
-          (stepped_done managed s f are own l.tally _ l.next l.invariant.eight i found w.if-at-lt-SLOTS.true
-          w.in-Done-judge_in.arrival w.in-Done-judge_in.slot
-          (sym w.judge_in.ensures ∙ ap paper_slot w.in-Done-judge_in.is) (w.arrived-tally.ensures f)))
-      | then-at-lt-SLOTS+in-Refused-judge_in w ↦
-          let vs = carried w.in-Refused-judge_in.refusal in
-          subst (λ (u : Tally). Stepped managed s l.tally l.next u met.next) (sym w.tally-is)
-          (subst (λ (q : ChannelRecord). Stepped managed s l.tally l.next w.passed-tally.result q) (sym w.next-is)
-          (stepped_refused managed s f are own l.tally _ l.next l.invariant.eight i found w.if-at-lt-SLOTS.true
-          (sym w.judge_in.ensures ∙ ap paper_slot w.in-Refused-judge_in.is)
-          (w.passed-tally.ensures vs ∙ ap (λ (n : ℕ). plus l.tally (tally_of (refused n vs))) w.number.ensures)))
-      | else-at-lt-SLOTS w ↦
-          subst (λ (u : Tally). Stepped managed s l.tally l.next u met.next) (sym w.tally-is)
-          (subst (λ (q : ChannelRecord). Stepped managed s l.tally l.next w.passed-tally-else-at-lt-SLOTS.result q) (sym w.next-is)
-          (stepped_none managed s f are own l.tally _ l.next l.invariant.eight i found w.if-at-lt-SLOTS.false
-          (w.passed-tally-else-at-lt-SLOTS.ensures []
-          ∙ ap (λ (n : ℕ). plus l.tally (tally_of (refused n []))) w.number-else-at-lt-SLOTS.ensures)))
-    ] in
-    heard_more l.invariant f read c.len_frame-place.ensures stepped
+    let f = c.in-Ok.frame in
+    let rest = drop l.place c.args.buf.now in
+    let there = are_drop l.place c.args.buf.now (λ i. omega (arith, c.type_inv.buf i)) in
+    let read = answered c.args.buf.now l.place c.args.managed c.from_bytes.ensures c.in-Ok.is in
+    heard_more l.invariant f read c.len_frame-place.ensures
+    (stepped c.args.managed (take (len_frame f.primary_header) rest) f (own_octets rest c.args.managed f there read) l.tally l.next
+    c.hear_in.ensures
+    (counted f l.next l.invariant.eight _ _ there read c.hear_in.ensures) (c.count.ensures f))
 
-pub returns-in-Refused : goal.returns-in-Refused
-returns-in-Refused c =
-    let l = c.loop-place in
-    goes_refused l.invariant.goes (omega arith)
-    (ap (λ (t : List ℕ). frame_reading t c.args.managed) (sym (rest_part c.args.buf.now l.place l.place refl))
-    ∙ sym c.from_bytes.ensures ∙ ap paper_frame c.in-Refused.is)
+pub returns-in-Err : goal.returns-in-Err
+returns-in-Err c =
+    goes_refused c.loop-place.invariant.goes (omega arith)
+    (answered c.args.buf.now c.loop-place.place c.args.managed c.from_bytes.ensures c.in-Err.is)
 
 pub returns : goal.returns
 returns c = goes_all c.loop-place.invariant.goes (omega arith)

@@ -1,13 +1,9 @@
--- Behind place `i` stand the number's low digits, and `rest` is what is left of it.
-use Rattle.std.proofs.Common.{◌≡◌, ◌/◌, ◌^◌, length, ◌-◌, ◌≤◌, ◌++◌, take}
+-- From place `i` on stand the number's low digits, and `rest` is what is left of it.
+use Rattle.std.proofs.Common.{◌≡◌, ◌/◌, ◌^◌, length, ◌-◌, ◌++◌, take}
 use Rattle.uslp_text.specs.Text.{digits}
 use Rattle.uslp_text.proofs.put_digits.Given as goal
 
 abbrev pub invariant-loop-i : goal.invariant-loop-i
 invariant-loop-i l =
-    (l.i ≤ length l.initial.to) × (length l.to ≡ length l.initial.to)
-    × (l.rest ≡ l.value / 10 ^ (length l.initial.to - l.i))
+    (l.rest ≡ l.value / 10 ^ (length l.initial.to - l.i))
     × (l.to ≡ take l.i l.initial.to ++ digits (length l.initial.to - l.i) l.value)
-
-abbrev pub decreases-loop-i : goal.decreases-loop-i
-decreases-loop-i l = l.i

@@ -6,9 +6,9 @@ use Rattle.uslp_data_field_header.proofs.TransferFrameDataFieldHeader.from_bytes
 
 pub returns-then-applicable_to_fixed_len_tfdz : goal.returns-then-applicable_to_fixed_len_tfdz
 returns-then-applicable_to_fixed_len_tfdz c =
-    let r = c.from_number-rule in
+    let r = c.from-rule in
     let s = c.args.buf.now in
-    let p : word 1 2 s ≡ c.be_u16.result = omega (arith, c.be_u16.ensures) in
+    let p : word 1 2 s ≡ c.from_be_bytes.result = omega (arith, c.from_be_bytes.ensures) in
     c.with_protocol.ensures
     ∙ sym
     (reading_pointer s (omega arith) r.result _ (rule_at s ∙ sym r.ensures) (number_at s)
@@ -16,7 +16,7 @@ returns-then-applicable_to_fixed_len_tfdz c =
 
 pub returns : goal.returns
 returns c =
-    let r = c.from_number-rule in
+    let r = c.from-rule in
     let s = c.args.buf.now in
     c.with_protocol-2.ensures
     ∙ sym

@@ -1,5 +1,5 @@
 -- At each `return` the tests that led there say which law of `header_reading` holds.
-use Rattle.std.proofs.Common.{arith, ◌≡◌, refl, ap, sym, ◌∙◌, ℕ, List, ◌%◌, ◌^◌, ◌<◌, ◌≤◌, length, take, get_or}
+use Rattle.std.proofs.Common.{arith, ◌≡◌, refl, ap, sym, ◌∙◌, ℕ, List, ◌+◌, ◌-◌, ◌%◌, ◌^◌, ◌<◌, ◌≤◌, length, take, drop, get_or}
 use lib.Dec.{lit≤}
 use Rattle.uslp_octets.specs.Octets.{AreOctets, word}
 use Rattle.uslp_octets.proofs.Laws.{word_part, word_fits}
@@ -13,6 +13,11 @@ octs s h i = h i
 -- the number of the first seven octets
 fixed : (s : List ℕ) (n : ℕ) → AreOctets s → 7 ≤ length s → n ≡ word 0 (length (take 7 s)) (take 7 s) % 2 ^ 64 → n ≡ word 0 7 s
 fixed s n o l e = e ∙ ap (λ (m : ℕ). m % 2 ^ 64) (word_part 0 7 s l) ∙ word_fits s 0 o 7 (lit≤ tt)
+
+-- the count, at most seven octets, fits a machine number
+count_fits : (s : List ℕ) → AreOctets s → (w : ℕ) → w < 8 → 7 + w ≤ length s
+    → word 0 (length (take (7 + w - 7) (drop 7 s))) (take (7 + w - 7) (drop 7 s)) % 2 ^ 64 ≡ word 7 w s
+count_fits s o w h l = ap (λ (m : ℕ). m % 2 ^ 64) (word_part 7 w s l) ∙ word_fits s 7 o w (omega arith)
 
 pub returns-then-buf-eq1 : goal.returns-then-buf-eq1
 returns-then-buf-eq1 c =
@@ -45,4 +50,4 @@ returns c =
     ∙ sym
     (reading_done _ o _ (fixed _ _ o c.if-found-lt-FIXED_LEN.false c.be_number-fixed.ensures) (omega arith)
     c.if-buf-eq1.false c.if-found-lt-FIXED_LEN.false c.if-version-ne-USLP_VERSION_NUMBER.false c.if-found-expected.false
-    (c.read_count.ensures ∙ word_part 7 (c.be_number-fixed.result % 8) _ c.if-found-expected.false))
+    (c.be_number.ensures ∙ count_fits _ o (c.be_number-fixed.result % 8) (omega arith) c.if-found-expected.false))

@@ -1,0 +1,6 @@
+-- `receive` ends: a frame that takes octets of the block leaves fewer.
+use Rattle.std.proofs.Common.{length}
+use Rattle.uslp_console_example.proofs.Link.receive.Given as goal
+
+abbrev pub decreases-loop-taken : goal.decreases-loop-taken
+decreases-loop-taken g l = length l.rest
