@@ -54,7 +54,7 @@ module _ (call : intake.Call) (managed : ManagedParameters) where
   no_calls [] = refl
   no_calls (block ∷ blocks) = no_calls blocks
 
-  -- blocks with nothing between them are the case of T-04
+  -- blocks with nothing between them are a case
   pub live_blocks : {s : List ℕ} {held : ℕ} {blocks : List (List ℕ)} {p : Passage} → Offered call managed s held blocks p
       → Live call managed s held (map takes blocks) p.frames (as_they_come managed p)
   live_blocks offers_none = no_more

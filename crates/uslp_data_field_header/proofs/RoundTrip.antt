@@ -1,4 +1,4 @@
--- A header that was written is read back, and one that was read is written back; an answer on paper has its way back.
+-- A header that was written is read back, and one that was read is written back.
 use mathlib.Core.Path.{◌≡◌, refl, ap, sym, ◌∙◌}
 use mathlib.Core.Bool.{Bool, true, false, cond, not, ◌&&◌}
 use mathlib.Core.List.{List, [], ◌∷◌, ◌++◌}

@@ -181,7 +181,7 @@ pub hear_many_kept : (κs : Lfts 1) (q : ChannelRecord) (s : Bor (List ℕ)) (ma
     → Allows fn_hear_many κs (q, (s, (managed, tt))) (x, (tt, (tt, (tt, tt)))) → frame_reading s.now managed ≡ refused k vs → x.next ≡ q
 hear_many_kept κs q s managed x e h = ap (λ (m : KeptMany). m.next) e ∙ (refused_first managed s.now q h).2
 
--- a setter over a lent header leaves what its decision says: on a refusal the header that it found
+-- a setter over a lent header leaves what its outcome says: on a refusal the header that it found
 setting_kept : (h left : PrimaryHeader) (o : Outcome PrimaryHeader) {k : ℕ} {vs : List ℕ} → left ≡ header_left h o → refused k vs ≡ header_off o → left ≡ h
 setting_kept h left (done g) e f = absurd (not_done f)
 setting_kept h left (refused j ws) e f = e

@@ -1,4 +1,4 @@
--- What hearing a frame says, by what hearing its count and reading its octets said; and the way back from paper.
+-- What hearing a frame says, by what hearing its count and reading its octets said.
 use mathlib.Core.Path.{◌≡◌, ap, sym}
 use mathlib.Core.List.{List}
 use Prim.Native.Nat.{ℕ}

@@ -1,5 +1,5 @@
 -- Reading a layout gives its header, reading and then writing gives the octets, writing and then reading gives the header.
--- And when two headers are the same but for the count's width, and that an answer on paper loses nothing.
+-- And when two headers are the same but for the count's width.
 use mathlib.Core.Path.{◌≡◌, refl, ap, ap₂, sym, ◌∙◌, subst}
 use Prim.Native.Nat.{ℕ, ◌+◌, ◌/◌, ◌<◌, ◌≤◌}
 use mathlib.Core.List.{List, [], ◌∷◌, ◌++◌}

@@ -1,4 +1,4 @@
--- What a reading that was done went through, and back; and the way back from an answer on paper.
+-- What a reading that was done went through, and back; and the numbers of the reader's refusals.
 use mathlib.Core.Path.{◌≡◌, refl, ap, sym, ◌∙◌, subst}
 use Prim.Native.Nat.{ℕ, ◌-◌, ◌≤◌}
 use mathlib.Core.Bool.{Bool, true, false, not, ◌&&◌, false≢true}

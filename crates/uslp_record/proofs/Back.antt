@@ -1,4 +1,4 @@
--- An answer of a call on the record has a way back from paper, and what a call leaves is one answer with one record.
+-- What a call leaves is one answer with one record, and a refusal leaves the record that was given.
 use Rattle.std.proofs.Common.{◌≡◌, ℕ, List, sym}
 use Rattle.uslp_kinds.specs.Outcome.{Outcome, done, refused}
 use Rattle.uslp_kinds.proofs.Outcomes.{not_done}
