@@ -64,7 +64,7 @@ impl Display for Shown<PrimaryHeader> {
         let dest = u8::from(header.source_or_dest_field);
         let bypass = u8::from(header.sequence_control_flag);
         let command = u8::from(header.protocol_control_command_flag);
-        let ocf = header.ocf_flag as u8;
+        let ocf = u8::from(header.ocf_flag);
         write!(
             f,
             "{} {dest} {} {} ",

@@ -107,14 +107,14 @@ fn channel(words: &mut Words) -> Result<Channel, Fault> {
 }
 
 fn bypass(words: &mut Words) -> Result<BypassSequenceControlFlag, Fault> {
-    Ok(BypassSequenceControlFlag::from(words.flag("bypass")? as u8))
+    Ok(BypassSequenceControlFlag::from(u8::from(words.flag("bypass")?)))
 }
 
 // A header's words up to the map; the others are still to come.
 fn place(words: &mut Words) -> Result<PrimaryHeader, Fault> {
     Ok(PrimaryHeader {
         spacecraft_id: words.number("scid")?,
-        source_or_dest_field: SourceOrDestField::from(words.flag("dest")? as u8),
+        source_or_dest_field: SourceOrDestField::from(u8::from(words.flag("dest")?)),
         vc_id: octet_of(words.number("vc")?),
         map_id: octet_of(words.number("map")?),
         frame_len_field: 0,
@@ -130,7 +130,9 @@ fn place(words: &mut Words) -> Result<PrimaryHeader, Fault> {
 fn behind_place(words: &mut Words, place: PrimaryHeader) -> Result<PrimaryHeader, Fault> {
     Ok(PrimaryHeader {
         sequence_control_flag: bypass(words)?,
-        protocol_control_command_flag: ProtocolControlCommandFlag::from(words.flag("pcc")? as u8),
+        protocol_control_command_flag: ProtocolControlCommandFlag::from(u8::from(words.flag(
+            "pcc",
+        )?)),
         ocf_flag: words.flag("ocfflag")?,
         vc_frame_count_len: octet_of(words.number("width")?),
         vc_frame_count: words.number("count")?,

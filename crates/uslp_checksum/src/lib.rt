@@ -1,4 +1,5 @@
-// The checksum of a message, CRC-16/IBM-3740, in three forms: by words, by a table, bit by bit. Each is proved equal to the definition in specs/.
+// The checksum of a message, CRC-16/IBM-3740, in three forms: by words, by a table, bit by bit. Each is proved equal to the definition in specs/,
+// and promised as a public form of its own (docs/PROMISES.md).
 #![tactic(auto)]
 
 ghost use Rattle.std.specs.Prelude.{◌≡◌};
@@ -42,7 +43,7 @@ pub fn update_by_table(register: u16, message: &[u8]) -> u16
     let table = TABLE;
     let mut current = register;
     for octet in message {
-        let at = ((current >> 8) ^ (*octet as u16)) as usize;
+        let at = usize::from((current >> 8) ^ u16::from(*octet));
         current = (current << 8) ^ table[at];
     }
     current
@@ -64,7 +65,7 @@ pub fn checksum_bitwise(message: &[u8]) -> u16
 fn octet_bitwise(register: u16, octet: u8) -> u16
     ensures { result ≡ feed register (lows 8 octet) }
 {
-    let mut current = register ^ ((octet as u16) << 8);
+    let mut current = register ^ (u16::from(octet) << 8);
     for k in 0..8usize {
         if current & 0x8000 != 0 {
             current = (current << 1) ^ 0x1021;

@@ -25,7 +25,7 @@ impl Wide {
         ensures { stands_for result ≡ feed register (bits (take (head + 8) message.now)) }
     {
         let half = 4 * head;
-        let seed = (register as u64) << 48;
+        let seed = u64::from(register) << 48;
         let first = word_at(message, 0) ^ seed;
         // by 64 less 8 * head places, in two steps: it may be 64, and no shift is
         Wide {
@@ -128,6 +128,6 @@ fn take(register: u16, number: u64, places: usize) -> u16
     requires { (places ≤ 32) × (number < 2 ^ places) }
     ensures { result ≡ feed register (lows places number) }
 {
-    let moved = (register as u64) << places;
+    let moved = u64::from(register) << places;
     narrow(number ^ (moved >> 16)) ^ (moved % 0x10000) as u16
 }

@@ -46,7 +46,7 @@ struct Link {
 }
 
 impl Link {
-    // Octets as the link delivers them, cut anywhere: each frame is heard as soon as it is whole.
+    // Octets as the link delivers them, cut anywhere: each frame is heard as soon as it is whole. What is left moves by what was taken.
     fn receive(&mut self, rt: &impl Print, block: &[u8]) -> io::Result<()> {
         let mut rest = block;
         loop {

@@ -18,7 +18,7 @@ pub struct TransferFrameDataFieldHeader {
 
 impl TransferFrameDataFieldHeader {
     // Refuses BAD_POINTER with the rule.
-    #[tactic(auto, unfolding(crate::specs::Field::field_making))]
+    #[tactic(auto, unfolding(crate::specs::Field::field_making, crate::specs::Field::field_checking))]
     pub fn new(
         construction_rule: ConstructionRule,
         uslp_protocol_id: UslpProtocolId,
@@ -26,14 +26,12 @@ impl TransferFrameDataFieldHeader {
     ) -> Result<TransferFrameDataFieldHeader, Refusal>
         ensures { paper result ≡ field_making construction_rule uslp_protocol_id fhp_or_lvo }
     {
-        if pointer_bad(construction_rule, fhp_or_lvo) {
-            return Err(Refusal::BadPointer(construction_rule));
-        }
-        Ok(TransferFrameDataFieldHeader {
+        TransferFrameDataFieldHeader {
             construction_rule,
             uslp_protocol_id,
             fhp_or_lvo,
-        })
+        }
+        .checked()
     }
 
     pub fn construction_rule(self) -> ConstructionRule

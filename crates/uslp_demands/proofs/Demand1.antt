@@ -51,7 +51,7 @@ use Rattle.uslp_demands.proofs.Facts.{implies}
 use Rattle.uslp_demands.proofs.OfPrimaryHeader as of_header
 use Rattle.uslp_demands.proofs.OfDataFieldHeader as of_field
 use Rattle.uslp_demands.proofs.OfWriter.{fn_write_to_slice, fn_new, fn_fill, fn_finish}
-use Rattle.uslp_demands.proofs.OfRecord.{fn_open_channel, fn_close_channel, fn_hear_count}
+use Rattle.uslp_demands.proofs.OfRecord.{fn_open_channel, fn_close_channel, fn_hear_count, fn_hear_in_place, lent}
 use Rattle.uslp_demands.proofs.OfHearing.{fn_hear, fn_hear_frame}
 use Rattle.uslp_demands.proofs.OfMany.{fn_hear_many}
 use Rattle.uslp_demands.proofs.OfIntake.{Takes}
@@ -167,6 +167,10 @@ module _ (r : Refusal) (q left : ChannelRecord) where
   pub hear_count_kept : (k : Channel) (w n : ℕ)
       → Allows fn_hear_count tt (q, (k, (w, (n, tt)))) (record { answer = Err r; next = left }, (tt, (tt, (tt, (tt, tt))))) → left ≡ q
   hear_count_kept k w n e = applied_keeps q (judging q k w n) (sym e)
+
+  pub hear_in_place_kept : (k : Channel) (w n : ℕ)
+      → Allows fn_hear_in_place ([], tt) (lent q, (k, (w, (n, tt)))) (Err r, (left, (tt, (tt, (tt, tt))))) → left ≡ q
+  hear_in_place_kept k w n e = applied_keeps q (judging q k w n) (sym e)
 
   pub hear_frame_kept : (x : TransferFrame)
       → Allows fn_hear_frame tt (q, (x, tt)) (record { answer = Err r; next = left }, (tt, (tt, tt))) → left ≡ q

@@ -1,12 +1,18 @@
 -- The promises of `uslp_record` settle each call, and shut out two tempting wrong answers of each function.
 use mathlib.Core.Path.{◌≡◌, refl, sym, ap, ◌∙◌}
-use mathlib.Core.Bool.{true}
+use mathlib.Core.Bool.{true, false}
 use mathlib.Core.List.{[]}
-use Prim.Native.Nat.{ℕ, ◌^◌}
+use Prim.Native.Nat.{ℕ, ◌^◌, ◌-◌}
 use native.Mathlib.Omega.{arith}
 use lib.ListN.{get_or}
+use contract.Lifetimes.{Lfts}
+use borrow.Fn.Kinds.{Dens}
+use denote.RattleType.{RattleType}
+use denote.Param.Laws.{Laws}
 use Rattle.uslp_kinds.proofs.Back.{paper_one}
 use Rattle.uslp_kinds.proofs.Outcomes.{not_done, done_one}
+use Rattle.uslp_kinds.specs.Answers.{refusal_number}
+use Rattle.uslp_kinds.specs.declared.Refusal.{Refusal}
 use Rattle.uslp_kinds.specs.declared.Refusal.TheVariants.{NotOpen, TotalFull}
 use Rattle.uslp_record.specs.Slots.{find, vacant, slot_of, state_at, put, empty_record}
 use Rattle.uslp_record.specs.Record.{Kept, keeping, opening, closing, showing, missing_in, too_much_in, console_total}
@@ -21,11 +27,11 @@ use Rattle.uslp_record.specs.declared.Arrival.{Arrival}
 use Rattle.uslp_record.specs.declared.Slot.{Slot}
 use Rattle.uslp_record.proofs.Back.{keeping_one}
 use Rattle.uslp_record.proofs as channels
-use Rattle.uslp_demands.specs.Promise.{Function, function, Allows, Settles, Program, Keeps}
+use Rattle.uslp_demands.specs.Promise.{Function, function, Left, Allows, Settles, Program, Keeps}
 use Rattle.uslp_demands.specs.Cases.{channel, last_heard}
 use Rattle.uslp_demands.proofs.Alike.{alike, done_alike}
-use Rattle.std.specs.Borrow.{Bor}
-use Rattle.std.specs.Prelude.{Option, Ok, Err, Some, None}
+use Rattle.std.specs.Borrow.{Bor, MutBor}
+use Rattle.std.specs.Prelude.{Option, Result, Ok, Err, Some, None}
 
 -- the functions, each with its promise
 abbrev fn_new : Function
@@ -48,6 +54,12 @@ fn_channel_state =
     function channels.ChannelRecord.channel_state.Kinds.ps channels.ChannelRecord.channel_state.Kinds.r
     channels.ChannelRecord.channel_state.Reads.Pre channels.ChannelRecord.channel_state.Reads.Learnt
 
+-- of every type that an answer may carry
+abbrev fn_refused : (T : RattleType) → Laws T → Function
+fn_refused T laws =
+    function (channels.Recorded.refused.Kinds.ps T laws) (channels.Recorded.refused.Kinds.r T laws)
+    (channels.Recorded.refused.Reads.Pre T laws) (channels.Recorded.refused.Reads.Learnt T laws)
+
 abbrev fn_total_missing : Function
 fn_total_missing =
     function channels.ChannelRecord.total_missing.Kinds.ps channels.ChannelRecord.total_missing.Kinds.r
@@ -67,6 +79,16 @@ abbrev pub fn_hear_count : Function
 fn_hear_count =
     function channels.ChannelRecord.hear_count.Kinds.ps channels.ChannelRecord.hear_count.Kinds.r
     channels.ChannelRecord.hear_count.Reads.Pre channels.ChannelRecord.hear_count.Reads.Learnt
+
+abbrev pub fn_hear_in_place : Function
+fn_hear_in_place =
+    function channels.ChannelRecord.hear_in_place.Kinds.ps channels.ChannelRecord.hear_in_place.Kinds.r
+    channels.ChannelRecord.hear_in_place.Reads.Pre channels.ChannelRecord.hear_in_place.Reads.Learnt
+
+abbrev fn_totals_is_full : Function
+fn_totals_is_full =
+    function channels.Totals.is_full.Kinds.ps channels.Totals.is_full.Kinds.r
+    channels.Totals.is_full.Reads.Pre channels.Totals.is_full.Reads.Learnt
 
 abbrev fn_slot_judge_count : Function
 fn_slot_judge_count =
@@ -117,6 +139,27 @@ pub open_channel_width : Allows fn_open_channel tt (empty_record, (channel, (0, 
     (record { answer = Ok tt; next = put empty_record 0 (Opened channel 0) }, (tt, (tt, (tt, tt)))) → ⊥
 unfolding opening
 open_channel_width e = let d : Opened channel 0 ≡ Closed = ap first_of e in let z : ◌≡◌ {A = ℕ} 0 1 = cc in omega arith
+
+-- what it asks is the language's own: that what such a type refers to lives as long
+pub refused_settles : (T : RattleType) (laws : Laws T) (κs : Lfts (fn_refused T laws).lifetimes) (a : Dens κs (fn_refused T laws).params)
+    (x y : Left (fn_refused T laws) κs a) → Allows (fn_refused T laws) κs a x → Allows (fn_refused T laws) κs a y → x ≡ y
+refused_settles T laws κs a x y s t = alike (s ∙ sym t) refl
+
+-- the number of the refusal in an answer
+abbrev refused_by : {A : Type 0} → Result A Refusal → ℕ
+refused_by (Ok x) = 0
+refused_by (Err r) = refusal_number r
+
+-- hands on another refusal
+pub refused_other : (T : RattleType) (laws : Laws T) (κs : Lfts (fn_refused T laws).lifetimes) (q : ChannelRecord)
+    → Allows (fn_refused T laws) κs (q, (NotOpen, tt)) (record { answer = Err TotalFull; next = q }, (tt, (tt, tt))) → ⊥
+refused_other T laws κs q e = let z : ◌≡◌ {A = ℕ} 17 13 = ap (λ v. refused_by v.answer) e in omega arith
+
+-- empties the record
+pub refused_empties : (T : RattleType) (laws : Laws T) (κs : Lfts (fn_refused T laws).lifetimes)
+    → Allows (fn_refused T laws) κs (opened, (NotOpen, tt)) (record { answer = Err NotOpen; next = empty_record }, (tt, (tt, tt))) → ⊥
+refused_empties T laws κs e = let d : Closed ≡ Opened channel 1 = ap (λ v. (get_or v.next.slots 0 (slot_of Closed)).state) e in
+    let z : ◌≡◌ {A = ℕ} 0 1 = cc in omega arith
 
 pub close_channel_settles : Settles fn_close_channel
 close_channel_settles = record {
@@ -252,6 +295,38 @@ pub hear_count_repeat : (q : ChannelRecord) → handed_in (state_at q 0) ≡ 2
     → Allows fn_hear_count tt (last_heard 1 0, (channel, (1, (0, tt)))) (record { answer = Ok Repeat; next = q }, (tt, (tt, (tt, (tt, tt))))) → ⊥
 unfolding judging find
 hear_count_repeat q h e = let z : ◌≡◌ {A = ℕ} 2 1 = sym h ∙ ap (λ (v : Kept Arrival). handed_in (first_of v)) e in omega arith
+
+-- a record that is lent for writing
+abbrev pub lent : ChannelRecord → MutBor ChannelRecord
+lent r = record { ref_ptr = (0, 0); ghost_name = 0; now = r }
+
+pub hear_in_place_settles : Settles fn_hear_in_place
+hear_in_place_settles = record {
+  total = λ κs a. tt;
+  same = λ κs a x y s t. let e = keeping_one (s ∙ sym t) in alike (paper_one {x = x.0} {y = y.0} e.0) (λ i. (e.1 i, (tt, (tt, (tt, tt)))));
+}
+
+-- says NEW and leaves the record as it was
+pub hear_in_place_idle : Allows fn_hear_in_place ([], tt) (lent opened, (channel, (1, (7, tt)))) (Ok (New 0), (opened, (tt, (tt, (tt, tt))))) → ⊥
+unfolding judging find
+hear_in_place_idle e = let z : ◌≡◌ {A = ℕ} 0 1 = ap (λ (v : Kept Arrival). handed_in (first_of v)) e in omega arith
+
+-- takes a count that does not fit its width
+pub hear_in_place_unfit : (a : Arrival) (q : ChannelRecord)
+    → Allows fn_hear_in_place ([], tt) (lent opened, (channel, (1, (300, tt)))) (Ok a, (q, (tt, (tt, (tt, tt))))) → ⊥
+unfolding judging find
+hear_in_place_unfit a q e = not_done (sym (keeping_one e).0)
+
+pub totals_is_full_settles : Settles fn_totals_is_full
+totals_is_full_settles = record { total = λ κs a. tt; same = λ κs a x y s t. alike (s ∙ sym t) refl }
+
+-- looks at what is missing alone
+pub totals_is_full_missing : Allows fn_totals_is_full tt (record { last = 0; handed_on = 1; missing = 0; repeats = 0; late = 2 ^ 60 }, tt) (false, (tt, tt)) → ⊥
+totals_is_full_missing e = let z : ◌≡◌ {A = ℕ} 0 1 = cc in omega arith
+
+-- takes the largest for too much
+pub totals_is_full_largest : Allows fn_totals_is_full tt (record { last = 0; handed_on = 1; missing = 2 ^ 60 - 1; repeats = 0; late = 0 }, tt) (true, (tt, tt)) → ⊥
+totals_is_full_largest e = let z : ◌≡◌ {A = ℕ} 0 1 = cc in omega arith
 
 pub slot_judge_count_settles : Settles fn_slot_judge_count
 slot_judge_count_settles = record {

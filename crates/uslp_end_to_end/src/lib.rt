@@ -72,23 +72,15 @@ pub fn hear_many(channels: ChannelRecord, buf: &[u8], managed: ManagedParameters
 }
 
 // Hears a frame that was read where the record stands: one handed over and back would be copied whole for each frame.
-#[tactic(auto, unfolding(uslp_record::specs::Judging::judging, uslp_record::specs::Judging::slot_judging))]
 fn hear_in(channels: &mut ChannelRecord, header: PrimaryHeader) -> Result<Arrival, Refusal>
-    requires { (header.vc_frame_count_len ≤ 7) × (header.vc_frame_count < 256 ^ header.vc_frame_count_len) }
     ensures { keeping (paper result) channels.new
         ≡ count_hearing channels.old (channel_of header) header.vc_frame_count_len header.vc_frame_count }
 {
-    let channel = channel_of(header);
-    let Some(at) = channels.search(channel) else {
-        return Err(Refusal::NotOpen);
-    };
-    let (arrival, slot) = channels.slots[at].judge_count(
-        channel,
+    channels.hear_in_place(
+        channel_of(header),
         header.vc_frame_count_len,
         header.vc_frame_count,
-    )?;
-    channels.slots[at] = slot;
-    Ok(arrival)
+    )
 }
 
 impl Tally {

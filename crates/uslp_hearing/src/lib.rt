@@ -62,7 +62,7 @@ pub fn handed_on(answer: Result<FrameArrival, Refusal>, buf: &[u8]) -> &[u8]
     }
 }
 
-// The channel that a frame belongs to.
+// The channel that a frame belongs to. No `From`: neither type is of this crate.
 pub fn channel_of(header: PrimaryHeader) -> Channel
     ensures { result ≡ channel_of header }
 {

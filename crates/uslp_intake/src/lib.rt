@@ -11,7 +11,7 @@ use uslp_octets::copy_octets;
 use uslp_reader::TransferFrame;
 
 // What a call did with its block: how many octets it took, and how many the holding buffer now holds. Four ends, and no Result:
-// a caller goes on after three of them, and a stop too says what was taken.
+// `taken` and `held` promise over all four (`taken_by`, `held_by`).
 #[derive(Clone, Copy, Debug)]
 pub enum IntakeAnswer {
     // The block is taken whole, and what is held is no frame yet.
@@ -84,7 +84,8 @@ pub fn take_block(
     take_wanted(holding, held, block, managed)
 }
 
-// Reads what is held, takes as many octets as the reader lacks, and reads again, until it decides or the block ends.
+// Reads what is held, takes as many octets as the reader lacks, and reads again, until it decides or the block ends. No index is
+// counted: what is taken grows by what the reader lacks.
 fn take_wanted(
     holding: &mut [u8],
     held: usize,

@@ -98,7 +98,7 @@ pub enum Refusal {
 }
 
 impl Refusal {
-    // The number of the row in the table of refusals.
+    // The number of the row in the table of refusals. No conversion, since what the refusal carries is dropped: `refusal_number`.
     pub fn number(self) -> u8
         ensures { result ≡ refusal_number self }
     {
@@ -125,7 +125,7 @@ impl Refusal {
         }
     }
 
-    // How many octets SHORT_SOURCE lacks; any other refusal lacks none.
+    // How many octets SHORT_SOURCE lacks; any other refusal lacks none, which is 0 (`lacking_of`).
     pub fn lacking(self) -> usize
         ensures { result ≡ lacking_of self }
     {
@@ -136,7 +136,7 @@ impl Refusal {
     }
 }
 
-// The case that the low bit names.
+// The case that the low bit names. Each flag has impls of its own: none may be written by a macro of the repository.
 impl From<u8> for SourceOrDestField {
     ghost from_gives = { λ number field. field ≡ source_or_dest_of number };
 
@@ -229,7 +229,12 @@ impl ConstructionRule {
     pub fn applicable_to_fixed_len_tfdz(self) -> bool
         ensures { result ≡ fixed_length self }
     {
-        u8::from(self) < 3
+        matches!(
+            self,
+            ConstructionRule::PacketSpanningMultipleFrames
+                | ConstructionRule::StartOfMapaSduOrVcaSdu
+                | ConstructionRule::ContinuingPortionOfMapaSdu
+        )
     }
 }
 

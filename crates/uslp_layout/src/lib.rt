@@ -8,7 +8,7 @@ use uslp_data_field_header::TransferFrameDataFieldHeader;
 use uslp_kinds::ManagedParameters;
 use uslp_primary_header::PrimaryHeader;
 
-// Where the data starts.
+// Where the data starts. The headers go apart, as `data_start` and `needed` name them.
 pub fn data_start(header: PrimaryHeader, field: TransferFrameDataFieldHeader) -> usize
     ensures { result ≡ data_start header field }
 {

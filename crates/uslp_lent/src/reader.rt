@@ -1,4 +1,4 @@
-// A reader that keeps the lent octets beside what was found in them.
+// A reader that keeps the lent octets beside what was found in them: beside TransferFrame, as docs/PROMISES.md lists the forms.
 ghost use Rattle.std.specs.Prelude.{◌≡◌, length};
 ghost use Rattle.uslp_octets.specs.Octets.{PartOf};
 ghost use Rattle.uslp_primary_header.specs.Header.{len_frame};

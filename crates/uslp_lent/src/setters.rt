@@ -1,4 +1,5 @@
 // Setters over a header lent for writing: thin, each stores what the header by value gives. On a refusal the header stays as it was.
+// Beside `with_..` of the header, as docs/PROMISES.md lists the forms.
 ghost use Rattle.std.specs.Prelude.{◌≡◌};
 ghost use Rattle.uslp_primary_header.specs.Header.{count_setting, length_setting};
 ghost use Rattle.uslp_lent.specs.Setting.{header_left, header_off};

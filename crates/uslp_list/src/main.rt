@@ -20,6 +20,7 @@ fn main(rt: HostRuntime) -> io::Result<()> {
     list_all(&rt)
 }
 
+// By `arg`: std's `args` is an error as a whole where one name is not UTF-8, and here that name alone is told.
 fn list_all<R: Env + Files + Input + Print + Eprint + Alloc>(rt: &R) -> io::Result<()> {
     let mut path = [0u8; PATH_ROOM];
     if let Err(FillError::NotPresent) = rt.arg(1, &mut path) {

@@ -85,6 +85,7 @@ impl<'a> Page<'a> {
         self.put_word(frame.data_len as u64, b"\n");
     }
 
+    // The line prints a number, 0 where nothing stopped the listing: `summary`.
     fn put_summary(&mut self, frames: usize, place: usize, answer: u8)
         ensures { Added (summary frames place answer) self.old self.new }
     {

@@ -49,5 +49,5 @@ pub fn part(octets: &[u8], start: usize, n: usize) -> &[u8]
 fn moved_in(number: u64, octet: u8) -> u64
     ensures { result ≡ (number * 256 + octet) % 2 ^ 64 }
 {
-    number % 0x0100_0000_0000_0000 * 256 + octet as u64
+    number % 0x0100_0000_0000_0000 * 256 + u64::from(octet)
 }

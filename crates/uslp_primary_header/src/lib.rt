@@ -118,12 +118,12 @@ impl PrimaryHeader {
     pub fn len_header(self) -> usize
         ensures { result ≡ len_header self }
     {
-        FIXED_LEN + self.vc_frame_count_len as usize
+        FIXED_LEN + usize::from(self.vc_frame_count_len)
     }
 
     pub fn len_frame(self) -> usize
         ensures { result ≡ len_frame self }
     {
-        self.frame_len_field as usize + 1
+        usize::from(self.frame_len_field) + 1
     }
 }

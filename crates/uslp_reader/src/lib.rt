@@ -129,7 +129,7 @@ fn read_whole(
     read_body(buf, managed, header, field)
 }
 
-// The frame whose two headers stand: FRAME_TOO_SHORT, BAD_CHECKSUM.
+// The frame whose two headers stand, which go apart as `needed` names them: FRAME_TOO_SHORT, BAD_CHECKSUM.
 #[tactic(auto, unfolding(crate::specs::Reader::frame_reading))]
 fn read_body(
     buf: &[u8],

@@ -15,23 +15,26 @@ impl ChannelRecord {
     pub fn hear_count(self, channel: Channel, width: u8, count: u64) -> Recorded<Arrival>
         ensures { keeping (paper result.answer) result.next ≡ count_hearing self channel width count }
     {
-        if let Err(refusal) = Width::of_count(width, count) {
-            return Recorded::refused(self, refusal);
-        }
-        let Some(at) = self.search(channel) else {
-            return Recorded::refused(self, Refusal::NotOpen);
-        };
         let mut next = self;
-        match next.slots[at].judge_count(channel, width, count) {
-            Ok((arrival, slot)) => {
-                next.slots[at] = slot;
-                Recorded {
-                    answer: Ok(arrival),
-                    next,
-                }
-            }
-            Err(refusal) => Recorded::refused(self, refusal),
-        }
+        let answer = next.hear_in_place(channel, width, count);
+        Recorded { answer, next }
+    }
+
+    // The same where the record stands: one handed over and back is copied whole.
+    #[tactic(auto, unfolding(crate::specs::Judging::judging, crate::specs::Judging::slot_judging), using(uslp_kinds::proofs::Back::passed_on))]
+    pub fn hear_in_place(
+        &mut self,
+        channel: Channel,
+        width: u8,
+        count: u64,
+    ) -> Result<Arrival, Refusal>
+        ensures { keeping (paper result) self.new ≡ count_hearing self.old channel width count }
+    {
+        Width::of_count(width, count)?;
+        let at = self.search(channel).ok_or(Refusal::NotOpen)?;
+        let (arrival, slot) = self.slots[at].judge_count(channel, width, count)?;
+        self.slots[at] = slot;
+        Ok(arrival)
     }
 }
 
@@ -115,6 +118,7 @@ impl Width {
 }
 
 impl SlotState {
+    // 0 for a closed slot (`width_at`).
     fn width(self) -> u8
         ensures { result ≡ width_at self }
     {
@@ -179,7 +183,8 @@ impl Totals {
         Ok(next)
     }
 
-    fn is_full(self) -> bool
+    // Whether one of them stands above the largest.
+    pub fn is_full(self) -> bool
         ensures { result ≡ overfull self }
     {
         self.handed_on > MOST || self.missing > MOST || self.repeats > MOST || self.late > MOST

@@ -50,7 +50,8 @@ impl ChannelRecord {
         self.first_that(|state| state.is_closed())
     }
 
-    // The first slot whose state passes the test. It counts its index, since a search is a loop that gives the slot number by break.
+    // The first slot whose state passes the test. It counts its index, since a search is a loop that gives the slot number by break
+    // (docs/PROMISES.md).
     #[tactic(auto, unfolding(crate::specs::Slots::FoundFirst))]
     fn first_that<F: Fn(SlotState) -> bool>(&self, test: F) -> Option<usize>
         requires { F.IsAlwaysCallable test }

@@ -1,4 +1,5 @@
-// Reads commands from standard input, one to a line, and prints one answer line for each.
+// Reads commands from standard input, one to a line, and prints one answer line for each. A program has one input, so the other two sessions
+// have programs of their own.
 #![tactic(auto)]
 
 use std::io;

@@ -1,4 +1,4 @@
-// Hears frames that a link lost, repeated, reordered and damaged, and shows totals after each.
+// The bench on another input: frames that a link lost, repeated, reordered and damaged, with totals after each.
 #![tactic(auto)]
 
 use std::io;

@@ -1,4 +1,4 @@
-// Answers commands whose expected answers are the Rust's own.
+// The bench on another input: commands whose expected answers are the Rust's own.
 #![tactic(auto)]
 
 use std::io;

@@ -12,7 +12,7 @@ use crate::saving::rank_of;
 use uslp_form::Form;
 use uslp_kinds::{BypassSequenceControlFlag, MAX_COUNT_LEN, MAX_VC_ID};
 use uslp_octets::be_number;
-use uslp_record::{Channel, ChannelRecord, MOST, SLOTS, SlotState, Totals};
+use uslp_record::{Channel, ChannelRecord, SLOTS, SlotState, Totals};
 
 // Octets that have the shape of a form, and their counts: how many entries are not heard, and how many there are in all.
 #[derive(Clone, Copy)]
@@ -206,12 +206,8 @@ fn sound_totals(width: u8, totals: Totals) -> bool
     requires { width ≤ 7 }
     ensures { Tells result (SoundTotals width totals) }
 {
-    // In two steps: the check finds no proof of one conjunction of all six.
     if totals.last >= 1 << (8 * width) || totals.handed_on == 0 {
         return false;
     }
-    totals.handed_on <= MOST
-        && totals.missing <= MOST
-        && totals.repeats <= MOST
-        && totals.late <= MOST
+    !totals.is_full()
 }

@@ -1,9 +1,12 @@
 -- How many digits a number has, digit by digit.
-use mathlib.Core.Path.{◌≡◌, refl, ap, sym, ◌∙◌}
-use Prim.Native.Nat.{ℕ, zero, suc, ◌+◌, ◌*◌, ◌/◌, ◌^◌, ◌≤◌, ◌<◌}
+use mathlib.Core.Path.{◌≡◌, refl, ap, ap₂, sym, ◌∙◌}
+use Prim.Native.Nat.{ℕ, zero, suc, ◌+◌, ◌*◌, ◌/◌, ◌%◌, ◌^◌, ◌≤◌, ◌<◌}
+use mathlib.Core.List.{List, [], ◌∷◌, ◌++◌}
 use native.Mathlib.Omega.{arith}
 use native.Mathlib.Decide.{dec_lt}
-use native.Mathlib.Nat.{pow-suc, div-lt_iff_lt-mul, one-le-pow}
+use native.Mathlib.Nat.{pow-suc, div-one, div-div-eq-div-mul, div-lt_iff_lt-mul}
+use Rattle.std.specs.Fmt as std
+use Rattle.std.proofs.lemmas.Fmt.{decimal_from_appends, length-decimal-le}
 use borrow.Author.Tests.{lt-ltb, le-ltb}
 use lib.Dec.{lit<}
 use lib.ListN.{length}
@@ -39,19 +42,16 @@ width_le (suc m) (suc k) n h =
 pub decimal_short : (k n : ℕ) → n < 10 ^ suc k → length (decimal n) ≤ suc k
 decimal_short k n h = omega (arith, length_digits (width n) n, width_le 20 k n h)
 
--- a number between two powers of ten
-width_between : (m k n : ℕ) → k ≤ m → 10 ^ k ≤ n → n < 10 * 10 ^ k → width_in m n ≡ k + 1
-unfolding width_in
-width_between zero zero n h l u = refl
-width_between zero (suc k) n h l u = absurd (omega arith)
-width_between (suc m) zero n h l u = width_last m n (omega arith)
-width_between (suc m) (suc k) n h l u =
-    let p : 10 ^ suc k ≡ 10 ^ k * 10 = pow-suc 10 k in
-    let big : 10 ≤ n = omega (arith, one-le-pow k 10 (lit< tt)) in
-    width_more m n big ∙ ap suc (width_between m k (n / 10) (omega arith) (omega (arith, p)) (omega (arith, p))) ∙ omega arith
+-- the numeral is std's
+digits_last : (k n : ℕ) → digits (suc k) n ≡ digits k (n / 10) ++ ((48 + n % 10) ∷ [])
+digits_last zero n = ap (λ (x : ℕ). (48 + x % 10) ∷ []) (div-one n)
+digits_last (suc k) n =
+    ap₂ (λ (x : ℕ) (ds : List ℕ). (48 + x % 10) ∷ ds)
+    (ap (λ (p : ℕ). n / p) (omega (arith, pow-suc 10 k)) ∙ sym (div-div-eq-div-mul n 10 (10 ^ k))) (digits_last k n)
 
-pub width_is : (k n : ℕ) → k < 20 → 10 ^ k ≤ n → n < 10 * 10 ^ k → k + 1 ≡ width n
-width_is k n h l u = sym (width_between 20 k n (omega arith) l u)
-
-pub width_none : width 0 ≡ 1
-width_none = width_last 19 0 (lit< tt)
+pub decimal_is : (n : ℕ) → n < 2 ^ 64 → std.decimal n ≡ decimal n
+decimal_is n h =
+    sym (decimal_from_appends (λ (k m : ℕ). digits (width_in k m) m) (record {
+      one = λ k m l. ap (λ (w : ℕ). digits w m) (width_last k m l) ∙ digits_last 0 m ∙ ap (λ (x : ℕ). (48 + x) ∷ []) (omega arith);
+      more = λ k m l. ap (λ (w : ℕ). digits w m) (width_more k m l) ∙ digits_last (width_in k (m / 10)) m;
+    }) 20 n h (length-decimal-le 20 n (omega arith) (omega arith) h))

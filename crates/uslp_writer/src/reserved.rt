@@ -55,7 +55,7 @@ impl TransferFrameCreatorWithReservedData {
         &buf[start..end]
     }
 
-    // The data area, lent for writing, or nothing where finishing would refuse.
+    // The data area, lent for writing, or nothing where finishing would refuse. Beside `data`, since a `&` and a `&mut` are two types.
     #[tactic(auto, unfolding(crate::specs::Reserved::finish_length))]
     pub fn data_mut(self, buf: &mut [u8]) -> &mut [u8]
         ensures { PartOf (as_bor buf.entry) (area_at self buf.old) (area_in self buf.old) (as_bor result) }
@@ -183,10 +183,7 @@ fn completed_header(frame: TransferFrameCreator, total: usize) -> PrimaryHeader
     ensures { result ≡ completed frame total }
 {
     let header = with_ocf_flag(frame);
-    match header.with_frame_len(total) {
-        Ok(completed) => completed,
-        Err(_) => header,
-    }
+    header.with_frame_len(total).unwrap_or(header)
 }
 
 fn put_ocf(ocf: Option<u32>, at: usize, buf: &mut [u8])

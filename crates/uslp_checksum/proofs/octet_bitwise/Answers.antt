@@ -22,6 +22,7 @@ returns c =
     let o = c.args.octet in
     let high : o * 256 % 2 ^ 16 ≡ o * 256 = mod-eq_of_lt (omega arith) in
     let all : c.loop-k.k ≡ 8 = omega arith in
-    c.loop-k.invariant ∙ ap (λ (k : ℕ). zsteps k (bit_xor r (o * 256 % 2 ^ 16))) all
+    c.loop-k.invariant ∙ ap (λ (k : ℕ). zsteps k (bit_xor r (c.from.result * 256 % 2 ^ 16))) all
+    ∙ ap (λ (x : ℕ). zsteps 8 (bit_xor r (x * 256 % 2 ^ 16))) c.from.ensures
     ∙ ap (λ (x : ℕ). zsteps 8 (bit_xor r x)) high
     ∙ sym (feed_octet r o (omega arith))

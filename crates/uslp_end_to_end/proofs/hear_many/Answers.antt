@@ -20,13 +20,6 @@ answered : (s : List ℕ) (place : ℕ) (managed : ManagedParameters) {r a : Res
     → paper r ≡ frame_reading (take (length s - place) (drop place s)) managed → r ≡ a → frame_reading (drop place s) managed ≡ paper a
 answered s place managed e is = ap (λ (t : List ℕ). frame_reading t managed) (sym (rest_part s place place refl)) ∙ sym e ∙ ap paper is
 
-pub hear_in-requires : goal.hear_in-requires
-hear_in-requires c =
-    let whole = c.args.buf.now in
-    let there = are_drop c.loop-place.place whole (λ i. omega (arith, c.type_inv.buf i)) in
-    let read = answered whole c.loop-place.place c.args.managed c.from_bytes.ensures c.in-Ok.is in
-    (read_narrow _ _ _ read, read_fits _ _ _ there read)
-
 pub count-requires : goal.count-requires
 count-requires c =
     let l = c.loop-place in
