@@ -2,7 +2,9 @@
 ghost use Rattle.std.specs.Prelude.{◌≡◌, ◌<◌, ◌≤◌, ◌^◌, ◌∷◌, [], MatchResult};
 ghost use Rattle.uslp_kinds.specs.Outcome.{done, refused, first_of};
 ghost use Rattle.uslp_kinds.specs.Answers.{paper, refusal};
+ghost use Rattle.uslp_record.specs.Slots.{slot_of};
 ghost use Rattle.uslp_record.specs.Record.{keeping};
+ghost use Rattle.uslp_record.specs.declared.SlotState.{SlotState};
 ghost use Rattle.uslp_record.specs.Judging.{ahead, arrival_of, totals_after, first_totals, overfull, arrival_at, totals_at, width_at, count_checks, slot_checks, count_hearing, slot_judging};
 
 use crate::{Arrival, Channel, ChannelRecord, MOST, Recorded, Slot, SlotState, Totals};
@@ -30,9 +32,9 @@ impl ChannelRecord {
     ) -> Result<Arrival, Refusal>
         ensures { keeping (paper result) self.new ≡ count_hearing self.old channel width count }
     {
-        Width::of_count(width, count)?;
+        let fitting = Width::of_count(width, count)?;
         let at = self.search(channel).ok_or(Refusal::NotOpen)?;
-        let (arrival, slot) = self.slots[at].judge_count(channel, width, count)?;
+        let (arrival, slot) = self.slots[at].judge(channel, fitting, count)?;
         self.slots[at] = slot;
         Ok(arrival)
     }
@@ -50,11 +52,19 @@ impl Slot {
     ) -> Result<(Arrival, Slot), Refusal>
         ensures { paper result ≡ slot_judging self channel width count }
     {
-        let fitting = Width::of_count(width, count)?;
-        let (arrival, totals) = self.state.step(fitting, count)?;
+        self.judge(channel, Width::of_count(width, count)?, count)
+    }
+
+    // The same of a count that fits. Refuses OTHER_WIDTH, TOTAL_FULL.
+    fn judge(self, channel: Channel, width: Width, count: u64) -> Result<(Arrival, Slot), Refusal>
+        ensures { paper result
+            ≡ first_of (slot_checks self.state width.octets count)
+            (done (arrival_at self.state count, slot_of (SlotState.Heard channel width.octets (totals_at self.state count)))) }
+    {
+        let (arrival, totals) = self.state.step(width, count)?;
         let state = SlotState::Heard {
             channel,
-            width,
+            width: width.octets,
             totals,
         };
         Ok((arrival, Slot { state }))
