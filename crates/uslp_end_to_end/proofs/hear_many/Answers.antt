@@ -11,7 +11,6 @@ use Rattle.uslp_reader.specs.declared.TransferFrame.{TransferFrame}
 use Rattle.uslp_reader.proofs.Parts.{rest_part}
 use Rattle.uslp_reader.proofs.Own.{own_octets}
 use Rattle.uslp_record.specs.declared.Arrival.{Arrival}
-use Rattle.uslp_hearing.proofs.Ways.{read_narrow, read_fits}
 use Rattle.uslp_end_to_end.proofs.Walk.{gap_in, counted, stepped, goes_refused, goes_all, heard_small, heard_more}
 use Rattle.uslp_end_to_end.proofs.hear_many.Goals as goal
 
