@@ -20,7 +20,7 @@ pub fn say<W: Write, T: Display + Drop>(out: &mut W, answer: Result<T, Refusal>)
     }
 }
 
-// The same of a command that finds nothing to say.
+// The same of a command that finds nothing to say: no blank stands behind its 0.
 pub fn say_done<W: Write>(out: &mut W, answer: Result<(), Refusal>) -> io::Result<()> {
     match answer {
         Ok(()) => write!(out, "0"),

@@ -41,6 +41,7 @@ pub fn run<R: Input + Print + Alloc>(rt: &R) -> io::Result<()> {
     ended
 }
 
+// Octet by octet, since a line may go on in the next block.
 fn answer_lines<R: Alloc, W: Write>(
     rt: &R,
     out: &mut W,

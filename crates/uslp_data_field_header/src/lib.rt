@@ -62,7 +62,7 @@ impl TransferFrameDataFieldHeader {
         }
     }
 
-    // The header itself where it can be written. Refuses BAD_POINTER with the rule.
+    // The header itself where it can be written, which callers go on with, and no type that says so. Refuses BAD_POINTER with the rule.
     #[tactic(auto, unfolding(crate::specs::Field::field_checking))]
     pub fn checked(self) -> Result<TransferFrameDataFieldHeader, Refusal>
         ensures { paper result ≡ field_checking self }

@@ -13,7 +13,7 @@ use uslp_reader::TransferFrame;
 use uslp_record::{Arrival, Channel, ChannelRecord, Recorded};
 
 // What hearing a frame finds: NEW, with the frame and how many are missing before it, or nothing to hand on. NEW alone carries the
-// frame, so it is no pair of an arrival and a frame.
+// frame, so it is no pair of an arrival and a frame; and what it carries has names, which a type parameter of `Arrival` would not give.
 #[derive(Clone, Copy, Debug)]
 pub enum FrameArrival {
     New { gap: u64, frame: TransferFrame },
@@ -21,7 +21,7 @@ pub enum FrameArrival {
     Late,
 }
 
-// Refuses what reading refuses, then NOT_OPEN, OTHER_WIDTH, TOTAL_FULL.
+// Refuses what reading refuses, then NOT_OPEN, OTHER_WIDTH, TOTAL_FULL. By a match, since `?` makes no `Recorded`.
 pub fn hear(
     channels: ChannelRecord,
     buf: &[u8],

@@ -39,7 +39,7 @@ pub fn list(recording: &[u8], out: &mut [u8]) -> Result<usize, Refusal>
     Ok(page.at)
 }
 
-// A lent buffer, and the place behind the text that stands in it.
+// A lent buffer, and the place behind the text that stands in it. Not by `write!`, which std promises only where it gives `Ok`.
 #[derive(Drop)]
 struct Page<'a> {
     out: &'a mut [u8],

@@ -11,7 +11,7 @@ use uslp_kinds::{MAX_COUNT_LEN, MAX_MAP_ID, MAX_VC_ID, Refusal};
 use uslp_octets::put_be_number;
 
 impl PrimaryHeader {
-    // The header itself where it can be written. Refuses BAD_FIELD, then BAD_COUNT.
+    // The header itself where it can be written, which callers go on with, and no type that says so. Refuses BAD_FIELD, then BAD_COUNT.
     #[tactic(auto, unfolding(crate::specs::Header::header_checking))]
     pub fn checked(self) -> Result<PrimaryHeader, Refusal>
         ensures { paper result ≡ header_checking self }

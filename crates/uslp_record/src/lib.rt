@@ -59,7 +59,8 @@ pub struct ChannelRecord {
     pub slots: [Slot; SLOTS],
 }
 
-// An answer, and the record after the call: on a refusal, the one that was given.
+// An answer, and the record after the call: on a refusal, the one that was given. No Result of a record, since a caller goes on with
+// one either way.
 #[derive(Clone, Copy, Debug)]
 pub struct Recorded<T> {
     pub answer: Result<T, Refusal>,

@@ -1,4 +1,5 @@
 // Octets as a record: the shape is tested first, then all entries are read into slots from the first on, then each is judged.
+// What a function asks of an index or a place is a clause of its own, since each is of another number.
 ghost use Rattle.std.specs.Prelude.{◌≡◌, ◌+◌, ◌≤◌, ◌<◌, drop, get_or, length};
 ghost use Rattle.std.specs.Option.{MatchOption};
 ghost use Rattle.uslp_octets.specs.Octets.{AreOctets, word};
@@ -195,6 +196,7 @@ fn sound(state: SlotState) -> bool
     }
 }
 
+// As `open_channel` tests it; here what the test tells is `Openable`.
 fn openable(channel: Channel, width: u8) -> bool
     ensures { Tells result (Openable channel width) }
 {

@@ -100,7 +100,7 @@ fn share_all(rt: &impl Print) -> io::Result<()> {
     keep(rt, channels)
 }
 
-// What a call answers: a number, or the number of its refusal.
+// What a call answers: a number, or the number of its refusal. Each example says so by itself.
 fn say<T: Display + Drop>(
     rt: &impl Print,
     what: &str,

@@ -15,7 +15,7 @@ use uslp_primary_header::PrimaryHeader;
 mod reserved;
 mod writing;
 
-// A frame but for its data.
+// A frame but for its data. The OCF stands beside the header's flag, as in a frame: the writer judges where they disagree.
 #[derive(Clone, Copy, Debug)]
 pub struct TransferFrameCreator {
     pub primary_header: PrimaryHeader,
