@@ -1,31 +1,19 @@
--- What the check of a header's pointer says, path by path, and that it decides first in any longer order of checks.
-use mathlib.Core.Path.{◌≡◌, refl, ap, sym, ◌∙◌}
+-- What the check of a header's pointer says where it passes, and that it decides first in any longer order of checks.
+use mathlib.Core.Path.{◌≡◌, ap, sym, ◌∙◌}
 use mathlib.Core.Bool.{Bool, true, false, cond}
 use mathlib.Core.List.{List, [], ◌∷◌, ◌++◌}
 use Prim.Native.Nat.{ℕ}
 use borrow.Author.Tests.{not-false}
 use Rattle.uslp_kinds.specs.Outcome.{Outcome, done, refused, first_of}
 use Rattle.uslp_kinds.specs.Kinds.{rule_number, fixed_length}
-use Rattle.uslp_kinds.specs.declared.ConstructionRule.{ConstructionRule}
-use Rattle.uslp_kinds.specs.declared.UslpProtocolId.{UslpProtocolId}
-use Rattle.uslp_data_field_header.specs.Field.{pointer_bad, len_field, field_making, field_checks, field_checking}
+use Rattle.uslp_data_field_header.specs.Field.{pointer_bad, len_field, field_checks, field_checking}
 use Rattle.uslp_data_field_header.specs.declared.TransferFrameDataFieldHeader.{TransferFrameDataFieldHeader}
 use Rattle.uslp_kinds.proofs.Outcomes.{done_one, passed, failed}
-use Rattle.std.specs.Prelude.{Option, Some, None}
-
--- making a header is checking it
-pub making : (rule : ConstructionRule) (id : UslpProtocolId) (pointer : Option ℕ)
-    → field_making rule id pointer ≡ field_checking (record { construction_rule = rule; uslp_protocol_id = id; fhp_or_lvo = pointer })
-unfolding field_making field_checking
-making rule id pointer = refl
+use Rattle.std.specs.Prelude.{Some, None}
 
 -- a pointer that does not go with the rule
 abbrev bad : TransferFrameDataFieldHeader → Bool
 bad f = pointer_bad f.construction_rule f.fhp_or_lvo
-
-pub checking_bad : (f : TransferFrameDataFieldHeader) → bad f ≡ true → field_checking f ≡ refused 9 (rule_number f.construction_rule ∷ [])
-unfolding field_checking
-checking_bad f h = rw h
 
 pub checking_good : (f : TransferFrameDataFieldHeader) → bad f ≡ false → field_checking f ≡ done f
 unfolding field_checking
@@ -48,9 +36,6 @@ module _ (f : TransferFrameDataFieldHeader) {g : TransferFrameDataFieldHeader} (
   pub checking_same : g ≡ f
   unfolding field_checking
   checking_same = sym (done_one (checks_good f [] (done f) e).1)
-
-  pub checking_again : field_checking g ≡ done g
-  checking_again = ap field_checking checking_same ∙ e
 
 module _ (f : TransferFrameDataFieldHeader) (ok : field_checking f ≡ done f) where
   good_pointer : bad f ≡ false

@@ -1,10 +1,10 @@
--- What reading a header says, path by path.
+-- What reading a header that has its octets says, with a pointer and without, and which numbers its refusals have.
 use mathlib.Core.Path.{◌≡◌, ap}
 use mathlib.Core.Bool.{true, false, ◌&&◌}
 use mathlib.Core.List.{List, [], ◌∷◌}
-use Prim.Native.Nat.{ℕ, ◌/◌, ◌%◌, ◌<◌, ◌≤◌}
+use Prim.Native.Nat.{ℕ, ◌/◌, ◌%◌, ◌≤◌}
 use native.Mathlib.Omega.{arith}
-use borrow.Author.Tests.{lt-ltb, le-ltb}
+use borrow.Author.Tests.{le-ltb}
 use lib.Dec.{ltb, lit≤}
 use lib.ListN.{length, get_or}
 use Rattle.uslp_octets.specs.Octets.{word, named}
@@ -28,10 +28,6 @@ rule_at s =
 pub number_at : (s : List ℕ) → number_in s ≡ get_or s 0 0 % 32
 number_at s = omega arith
 
-pub reading_none : (s : List ℕ) → length s < 1 → field_reading s ≡ refused 1 (length s ∷ 1 ∷ [])
-unfolding field_reading
-reading_none s h = rw (lt-ltb _ _ h)
-
 -- its refusals are 1 and 5
 pub reading_up_to : (s : List ℕ) {k : ℕ} {vs : List ℕ} → field_reading s ≡ refused k vs → k ≤ 5
 unfolding field_reading
@@ -44,10 +40,6 @@ reading_up_to s =
 -- with one octet, by its rule and the number of its protocol id
 module _ (s : List ℕ) (one : 1 ≤ length s) (rule : ConstructionRule) (n : ℕ) (has : rule_in s ≡ rule) (low : number_in s ≡ n) where
   module _ (fixed : fixed_length rule ≡ true) where
-    pub reading_short : length s < 3 → field_reading s ≡ refused 1 (length s ∷ 3 ∷ [])
-    unfolding field_reading
-    reading_short h = rw (le-ltb _ _ one, has, fixed, lt-ltb _ _ h)
-
     pub reading_pointer : (p : ℕ) → word 1 2 s ≡ p → 3 ≤ length s → field_reading s ≡ with_protocol rule n (Some p)
     unfolding field_reading
     reading_pointer p e h = rw (le-ltb _ _ one, has, low, e, fixed, le-ltb _ _ h)
@@ -56,11 +48,8 @@ module _ (s : List ℕ) (one : 1 ≤ length s) (rule : ConstructionRule) (n : �
   unfolding field_reading
   reading_other other = rw (le-ltb _ _ one, has, low, other)
 
--- the protocol id of a known number, and the refusal of one that is not known
+-- the protocol id of a known number
 module _ (rule : ConstructionRule) (n : ℕ) (pointer : Option ℕ) where
   pub with_known : {id : UslpProtocolId} → protocol_of n ≡ done id
       → with_protocol rule n pointer ≡ done (record { construction_rule = rule; uslp_protocol_id = id; fhp_or_lvo = pointer })
   with_known e = rw e
-
-  pub with_unknown : {k : ℕ} {vs : List ℕ} → protocol_of n ≡ refused k vs → with_protocol rule n pointer ≡ refused k vs
-  with_unknown e = rw e

@@ -1,4 +1,3 @@
-pub mod Arms
 pub mod Back
 pub mod Cases
 pub mod Equality

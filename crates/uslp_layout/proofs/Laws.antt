@@ -7,18 +7,12 @@ use native.Mathlib.Omega.{arith}
 use lib.ListN.{length, length-append}
 use Rattle.uslp_octets.specs.Octets.{octets}
 use Rattle.uslp_checksum.specs.Checksum.{checksum_of}
-use Rattle.uslp_kinds.specs.Kinds.{fixed_length}
-use Rattle.uslp_data_field_header.specs.Field.{len_field}
-use Rattle.uslp_data_field_header.specs.declared.TransferFrameDataFieldHeader.{TransferFrameDataFieldHeader}
 use Rattle.uslp_layout.specs.Layout.{present, ocf_octets, with_fecf}
 use Rattle.std.specs.Prelude.{Option, Some, None}
 
 pub cond_le : (b : Bool) (m n : ℕ) → n ≤ m → cond b m n ≤ m
 cond_le true m n h = omega arith
 cond_le false m n h = h
-
-pub field_le : (f : TransferFrameDataFieldHeader) → len_field f ≤ 3
-field_le f = cond_le (fixed_length f.construction_rule) 3 1 (omega arith)
 
 pub length_ocf : (o : Option ℕ) → length (ocf_octets o) ≡ cond (present o) 4 0
 length_ocf None = refl

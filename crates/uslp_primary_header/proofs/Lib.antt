@@ -1,5 +1,4 @@
 pub mod Checks
-pub mod Making
 pub mod ReadPaths
 pub mod RoundTrip
 pub mod Rows

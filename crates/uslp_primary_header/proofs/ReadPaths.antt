@@ -1,4 +1,4 @@
--- What `header_reading` says, path by path, in the words of the code: n is the number that the first seven octets make.
+-- What `header_reading` says of four octets or more, path by path, in the words of the code: n is the number that the first seven octets make.
 use mathlib.Core.Path.{◌≡◌, ap, sym, ◌∙◌}
 use Prim.Native.Nat.{ℕ, ◌+◌, ◌/◌, ◌%◌, ◌^◌, ◌<◌, ◌≤◌}
 use mathlib.Core.Bool.{false}
@@ -20,9 +20,6 @@ module _ (s : List ℕ) (oct : AreOctets s) (n : ℕ) (e : n ≡ word 0 7 s) whe
   -- the fourth octet alone tells it
   pub truncated_at : named "truncated" (split format n) ≡ get_or s 3 0 % 2
   truncated_at = omega (arith, oct 0, oct 1, oct 2, oct 3, oct 4, oct 5, oct 6)
-
-  pub reading_short : length s < 4 → header_reading s ≡ refused 1 (length s ∷ 4 ∷ [])
-  reading_short h = reading_is ∙ simp (lt-ltb _ _ h)
 
   module _ (four : 4 ≤ length s) where
     pub reading_truncated : get_or s 3 0 % 2 ≡ 1 → header_reading s ≡ refused 3 []

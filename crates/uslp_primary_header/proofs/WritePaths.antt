@@ -12,7 +12,7 @@ use Rattle.uslp_octets.specs.Octets.{octets, value_of, pack}
 use Rattle.uslp_kinds.specs.Outcome.{Outcome, done, refused, leaving, only_if_done, first_of}
 use Rattle.uslp_primary_header.specs.Header.{fixed_table, table, len_header, header_checks, header_checking, header_writing}
 use Rattle.uslp_primary_header.specs.declared.PrimaryHeader.{PrimaryHeader}
-use Rattle.uslp_primary_header.proofs.Checks.{checks_refused, checks_passed, checks_same}
+use Rattle.uslp_primary_header.proofs.Checks.{checks_refused, checks_passed}
 use Rattle.uslp_primary_header.proofs.Rows.{table_split}
 
 -- the check that follows those of the header
@@ -53,7 +53,3 @@ module _ (h : PrimaryHeader) (s : List ℕ) where
         let all : ys ≡ octets w h.vc_frame_count = ey ∙ rw (eb, z, long) in
         rw (all, eb, z, drop-drop w 7 s, en)
         (sym (writing_done (omega arith) ∙ ap (λ (l : List ℕ). leaving (done (len_header h)) (l ++ drop (len_header h) s)) (table_split 0 h e)))
-
--- what passes the checks is what is written
-pub writing_checked : (h g : PrimaryHeader) (s : List ℕ) → header_checking h ≡ done g → header_writing g s ≡ header_writing h s
-writing_checked h g s e = ap (λ (k : PrimaryHeader). header_writing k s) (sym (checks_same h g e))

@@ -1,4 +1,4 @@
--- What `frame_reading` says, path by path, and `contents_in` where the data are there.
+-- What `frame_reading` says, path by path but for refusal 7, and `contents_in` where the data are there.
 use mathlib.Core.Path.{◌≡◌, refl, ap, ap₂, sym, ◌∙◌}
 use Prim.Native.Nat.{ℕ, ◌+◌, ◌-◌, ◌<◌, ◌≤◌}
 use mathlib.Core.Bool.{Bool, true, false, not, ◌&&◌}
@@ -72,9 +72,6 @@ module _ (s : List ℕ) (managed : ManagedParameters) where
         pub reading_body : frame_reading s managed ≡ body_reading h f managed s
         unfolding frame_reading
         reading_body = simp (header, le-ltb _ _ whole, field)
-
-        pub reading_too_short : len_frame h < needed h f managed → frame_reading s managed ≡ refused 7 (len_frame h ∷ needed h f managed ∷ [])
-        reading_too_short l = reading_body ∙ simp (lt-ltb _ _ l)
 
         module _ (room : needed h f managed ≤ len_frame h) where
           pub reading_checksum : {a b : ℕ} → managed.has_fecf ≡ true → (checksum_of (take (len_frame h) s) ≡ 0 → ⊥) → a ≡ stored_fecf h s → b ≡ computed_fecf h s

@@ -1,10 +1,10 @@
--- Laws of texts that are told in a buffer: one behind another, nothing, and all of one that has its room.
+-- Laws of texts that are told in a buffer: one behind another, and all of one that has its room.
 use mathlib.Core.Path.{◌≡◌, refl, ap, ap₂, sym, subst, ◌∙◌}
 use Prim.Native.Nat.{ℕ, zero, suc, ◌+◌, ◌≤◌, min}
-use mathlib.Core.List.{List, [], ◌∷◌, ◌++◌, append-nil}
+use mathlib.Core.List.{List, [], ◌∷◌, ◌++◌}
 use native.Mathlib.Omega.{arith}
-use native.Mathlib.Nat.{zero-min, min-zero, suc-min-suc, zero-add, suc-add, add-zero}
-use lib.ListN.{length, take, drop, length-append, length-take, length-drop, take-append-drop}
+use native.Mathlib.Nat.{zero-min, min-zero, suc-min-suc, zero-add, suc-add}
+use lib.ListN.{length, take, drop, length-append, length-take, length-drop}
 use lib.Seq.{take_all}
 use Rattle.uslp_octets.specs.Octets.{overlaid}
 use Rattle.uslp_text.specs.Text.{Told}
@@ -31,10 +31,6 @@ length_overlaid t s =
 abbrev pub laid : ℕ → List ℕ → List ℕ → List ℕ
 laid at t s = take at s ++ overlaid t (drop at s)
 
-laid_nil : (at : ℕ) (t : List ℕ) → laid at t [] ≡ []
-laid_nil zero t = overlaid_nil t
-laid_nil (suc at) t = overlaid_nil t
-
 -- a text behind another is laid as one
 laid_front : (t u s : List ℕ) → laid (min (length t) (length s)) u (overlaid t s) ≡ overlaid (t ++ u) s
 laid_front [] u s = rw (zero-min (length s), overlaid_none s) refl
@@ -51,12 +47,9 @@ length_laid at t s =
     omega (arith, length-append (take at s) (overlaid t (drop at s)), length-take at s, length-drop at s, length_overlaid t (drop at s))
 
 module _ {t s left : List ℕ} {at end : ℕ} (p : Told t at s end left) where
-  -- the buffer is as long as it was, and the place stands in it
+  -- the buffer is as long as it was
   pub told_long : length left ≡ length s
   told_long = ap length p.stands ∙ length_laid at t s
-
-  pub told_end : end ≤ length s
-  told_end = omega (arith, p.ends)
 
 -- a text that is the same is told too
 pub told_as : {t u s left : List ℕ} {at end : ℕ} → t ≡ u → Told t at s end left → Told u at s end left
@@ -69,21 +62,6 @@ told_more {t} {u} {s} {mid} {left} {at} {m} {end} p q =
       ends = omega (arith, p.ends, q.ends, told_long p, length-append t u);
       stands =
           q.stands ∙ ap₂ (λ (k : ℕ) (x : List ℕ). laid k u x) p.ends p.stands ∙ laid_behind at t u s;
-    }
-
--- what stands where nothing is told behind it
-pub told_less : {t s left : List ℕ} {at end : ℕ} → Told (t ++ []) at s end left → Told t at s end left
-told_less {t} {s} {left} {at} {end} p =
-    record {
-      ends = p.ends ∙ ap (λ (x : List ℕ). min (at + length x) (length s)) (append-nil t);
-      stands = p.stands ∙ ap (λ (x : List ℕ). laid at x s) (append-nil t);
-    }
-
-pub told_nothing : {s : List ℕ} {at : ℕ} → at ≤ length s → Told [] at s at s
-told_nothing {s} {at} h =
-    record {
-      ends = omega (arith, add-zero at);
-      stands = sym (ap (λ (x : List ℕ). take at s ++ x) (overlaid_none (drop at s)) ∙ take-append-drop at s);
     }
 
 -- a text that has its room stands whole at the front

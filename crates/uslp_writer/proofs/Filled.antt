@@ -1,7 +1,6 @@
 -- Reserving, filling the data area and finishing is writing the frame.
 use mathlib.Core.Path.{◌≡◌, refl, ap, sym, ◌∙◌}
 use Prim.Native.Nat.{ℕ, ◌+◌, ◌≤◌, min}
-use mathlib.Core.Bool.{false}
 use mathlib.Core.List.{List, ◌++◌, append_assoc}
 use native.Mathlib.Omega.{arith}
 use lib.ListN.{length, take, drop, length-append, length-drop}
@@ -9,9 +8,8 @@ use lib.Seq.{length-take-le, take_at, drop_at}
 use Rattle.uslp_kinds.specs.Outcome.{Outcome, done, refused, Written, leaving}
 use Rattle.uslp_kinds.proofs.Back.{leaving_one}
 use Rattle.uslp_data_field_header.specs.Field.{field_checking}
-use Rattle.uslp_layout.proofs.Laws.{length_fecf}
 use Rattle.uslp_layout.specs.Layout.{data_start, ocf_octets, body}
-use Rattle.uslp_writer.specs.Frame.{total, fields_of, ocf_missing, header_octets, frame_octets, frame_writing}
+use Rattle.uslp_writer.specs.Frame.{total, fields_of, header_octets, frame_octets, frame_writing}
 use Rattle.uslp_writer.specs.Reserved.{reservation, reserved_octets, reserving, claimed, finish_length, finishing, filled, filling, in_turn}
 use Rattle.uslp_writer.specs.declared.TransferFrameCreator.{TransferFrameCreator}
 use Rattle.uslp_writer.specs.declared.TransferFrameCreatorWithReservedData.{TransferFrameCreatorWithReservedData}
@@ -45,10 +43,6 @@ module _ (c : TransferFrameCreator) (d : List ℕ) where
         length_headers c (total c (length d)) f,
         length-append d (ocf_octets c.operational_control_field),
       )
-
-pub length_frame : (c : TransferFrameCreator) (d : List ℕ) → field_checking c.data_field_header ≡ done c.data_field_header
-    → ocf_missing c ≡ false → length (frame_octets c d) ≡ total c (length d)
-length_frame c d f o = omega (arith, length_fecf c.has_fecf (body_of c d), length_body c d f, total_parts c (length d) o)
 
 length_area : (c : TransferFrameCreator) (n : ℕ) (s : List ℕ) → Ready c n → total c n ≤ length s → length (take n (drop (start c) s)) ≡ n
 length_area c n s r room = length-take-le n (drop (start c) s) (omega (arith, length-drop (start c) s, total_parts c n r.ocf_given))
@@ -109,20 +103,8 @@ module _ (c : TransferFrameCreator) (d s : List ℕ) (r : Ready c (length d)) (r
       rw (finishes b long)
       (ap (leaving (done (total c (length d)))) (body_sealed c.has_fecf (total c (length d)) (before c (length d)) (body_of c d) s lb parts))
 
--- what a reservation that was made leaves room for, and what filling and finishing it leaves
+-- what filling and finishing a reservation that was made leaves
 module _ (c : TransferFrameCreator) (d s s₁ : List ℕ) (k : TransferFrameCreatorWithReservedData) (e : reserving c (length d) s ≡ leaving (done k) s₁) where
-  pub data_room : k.data_index + length d ≤ length s₁
-  data_room =
-      let w = reserved_through c (length d) s e in
-      omega (
-        arith,
-        ap length w.3,
-        ap (λ (x : TransferFrameCreatorWithReservedData). x.data_index) w.2,
-        length_reserved c d s w.0 w.1,
-        total_parts c (length d) w.0.ocf_given,
-        w.1,
-      )
-
   pub fill_reserved : filling k d s₁ ≡ leaving (done (length d)) (filled k d s₁)
   fill_reserved =
       let w = reserved_through c (length d) s e in

@@ -3,7 +3,6 @@ use mathlib.Core.Path.{◌≡◌, refl, ap, sym, ◌∙◌}
 use Prim.Native.Nat.{ℕ, ◌<◌, ◌≤◌}
 use mathlib.Core.Bool.{Bool, true, false, ◌||◌}
 use mathlib.Core.List.{List, [], ◌∷◌, ◌++◌}
-use native.Mathlib.Omega.{arith}
 use lib.Dec.{ltb}
 use borrow.Author.Tests.{lt-ltb, le-ltb, ltb-false}
 use Rattle.uslp_kinds.specs.Outcome.{Outcome, done, refused, first_of}
@@ -17,9 +16,7 @@ use Rattle.uslp_primary_header.proofs.Checks as header
 use Rattle.uslp_data_field_header.specs.Field.{pointer_bad, field_checks, field_checking}
 use Rattle.uslp_data_field_header.specs.declared.TransferFrameDataFieldHeader.{TransferFrameDataFieldHeader}
 use Rattle.uslp_data_field_header.proofs.Checks as field
-use Rattle.uslp_layout.specs.Layout.{needed}
-use Rattle.uslp_layout.proofs.Laws.{field_le, cond_le}
-use Rattle.uslp_writer.specs.Frame.{flagged, managed_of, total, ocf_missing, frame_checks, frame_length}
+use Rattle.uslp_writer.specs.Frame.{total, ocf_missing, frame_checks, frame_length}
 use Rattle.uslp_writer.specs.declared.TransferFrameCreator.{TransferFrameCreator}
 
 -- what comes out of a check is what went in
@@ -135,15 +132,3 @@ module _ (c : TransferFrameCreator) (n : ℕ) {m : ℕ} (e : frame_length c n �
         record { header_passes = header_good; field_passes = f.0; ocf_given = o.0; fits = ltb-false _ _ t.0 },
         done_one t.1,
       )
-
--- the octets besides the data are few
-pub needed_in : (c : TransferFrameCreator) → header_checking c.primary_header ≡ done c.primary_header
-    → needed (flagged c) c.data_field_header (managed_of c) ≤ 23
-needed_in c h =
-    omega (
-      arith,
-      header.width_in_lem c.primary_header h,
-      field_le c.data_field_header,
-      cond_le (flagged c).ocf_flag 4 0 (omega arith),
-      cond_le c.has_fecf 2 0 (omega arith),
-    )

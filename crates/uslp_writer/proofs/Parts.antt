@@ -4,33 +4,18 @@ use Prim.Native.Nat.{ℕ, ◌+◌, ◌-◌, ◌≤◌}
 use mathlib.Core.Bool.{Bool, true, false, cond}
 use mathlib.Core.List.{List, [], ◌++◌, append_assoc, append-nil}
 use native.Mathlib.Omega.{arith}
-use native.Mathlib.Nat.{add_assoc, sub-zero}
+use native.Mathlib.Nat.{add_assoc}
 use lib.ListN.{length, take, drop, length-drop, drop_of_length-le}
 use lib.Seq.{take_all, take-length, drop-length, drop-drop, take_at, drop_at, take-append-add, drop-append-add}
-use borrow.Rule.Slice.PartMut.{put_mid, mid_of, mid_len, Post-is}
-use Rattle.uslp_octets.specs.Octets.{octets, overlaid}
-use Rattle.uslp_checksum.specs.Checksum.{checksum_of}
+use borrow.Rule.Slice.PartMut.{put_mid, mid_of, Post-is}
+use Rattle.uslp_octets.specs.Octets.{overlaid}
 use Rattle.uslp_layout.specs.Layout.{with_fecf}
-
--- a number put into the places from a to e
-pub number_put : (a e n : ℕ) (s ys : List ℕ) → a ≤ e → e ≤ length s → ys ≡ octets (length (mid_of a (e - a) s)) n
-    → put_mid a (e - a) s ys ≡ take a s ++ (octets (e - a) n ++ drop e s)
-number_put a e n s ys h g put = rw (put, mid_len a e s g, Post-is a e s h)
 
 -- as many octets laid over a part
 pub overlaid_whole : (d t : List ℕ) → length t ≡ length d → overlaid d t ≡ d
 overlaid_whole d t long =
     let none : drop (length d) t ≡ [] = drop_of_length-le t {i = length d} (omega arith) in
     rw (long, none, append-nil, take-length)
-
--- the checksum of the rest put into the last two octets of a total
-pub fecf_put : (total sum : ℕ) (s ys : List ℕ) → 2 ≤ total → total ≤ length s → sum ≡ checksum_of (take (total - 2 - 0) s)
-    → ys ≡ octets (length (mid_of (total - 2) (total - (total - 2)) s)) sum
-    → put_mid (total - 2) (total - (total - 2)) s ys ≡ with_fecf true (take (total - 2) s) ++ drop total s
-fecf_put total sum s ys h g check put =
-    let two : total - (total - 2) ≡ 2 = omega arith in
-    number_put (total - 2) total sum s ys (omega arith) g put
-    ∙ rw (two, check, sub-zero) (sym (append_assoc (take (total - 2) s) (octets 2 (checksum_of (take (total - 2) s))) (drop total s)))
 
 -- octets q written behind the octets p, in the part that goes up to the end
 pub tail_put : (at n : ℕ) (s b p q ys : List ℕ) → b ≡ p ++ drop at s → length p ≡ at → at ≤ length b

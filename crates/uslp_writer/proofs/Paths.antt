@@ -114,10 +114,6 @@ module _ (c : TransferFrameCreator) (d s : List ℕ) where
   unfolding frame_writing
   writing_refused = of_refused c (length d) s (total c (length d)) over
 
-  pub writing_short : Ready c (length d) → length s < total c (length d) → frame_writing c d s ≡ leaving (refused 2 (length s ∷ total c (length d) ∷ [])) s
-  unfolding frame_writing
-  writing_short = of_short c (length d) s (total c (length d)) over
-
   pub writing_done : Ready c (length d) → total c (length d) ≤ length s → frame_writing c d s ≡ leaving (done (total c (length d))) over
   unfolding frame_writing
   writing_done = of_done c (length d) s (total c (length d)) over
