@@ -6,7 +6,7 @@ use std::io;
 use uslp_end_to_end::hear_many;
 use uslp_form::Form;
 use uslp_hearing::{FrameArrival, handed_on, hear, hear_frame};
-use uslp_intake::{IntakeAnswer, take_block};
+use uslp_intake::{IntakeAnswer, held_by, take_block, taken_by};
 use uslp_kinds::{BypassSequenceControlFlag, MAX_FRAME_LEN, NO_FECF, Refusal, written};
 use uslp_record::{Channel, ChannelRecord};
 use uslp_saved::{MAX_FORM_LEN, restore, save};
@@ -51,9 +51,10 @@ impl Link {
         let mut rest = block;
         loop {
             let answer = take_block(&mut self.holding, self.held, rest, NO_FECF);
-            self.held = answer.held(self.held);
+            self.held = held_by(self.held, answer);
+            let taken = taken_by(answer);
             match answer {
-                IntakeAnswer::Frame { taken, frame } => {
+                Ok(IntakeAnswer::Frame { frame, .. }) => {
                     let heard = hear_frame(self.channels, frame);
                     self.channels = heard.next;
                     let reading = handed_on(heard.answer, &self.holding);
@@ -64,9 +65,9 @@ impl Link {
                     rest = &rest[taken..];
                 }
                 // the block is used up, and what is held is no frame yet
-                IntakeAnswer::Waiting { .. } => return Ok(()),
+                Ok(IntakeAnswer::Waiting { .. }) => return Ok(()),
                 // no more frames come until the console drops what is held
-                IntakeAnswer::Stopped { refusal, .. } | IntakeAnswer::Refused(refusal) => {
+                Ok(IntakeAnswer::Stopped { refusal, .. }) | Err(refusal) => {
                     return say(rt, "stopped, refused: ", refusal.number());
                 }
             }

@@ -58,7 +58,7 @@ use Rattle.uslp_demands.proofs.OfIntake.{Takes}
 use Rattle.uslp_demands.proofs.OfSaved.{fn_save, fn_restore}
 use Rattle.uslp_demands.proofs.OfConverting.{fn_convert}
 use Rattle.uslp_demands.proofs.OfListing.{fn_list}
-use Rattle.std.specs.Prelude.{Err}
+use Rattle.std.specs.Prelude.{Ok, Err}
 
 -- the last check of a writing: room
 abbrev short : {A : Type 0} → List ℕ → ℕ → List (Bool × Outcome A)
@@ -131,18 +131,18 @@ module _ (r : Refusal) (s : MutBor (List ℕ)) (left : List ℕ) where
 
 -- the intake's own refusals
 pub take_block_kept : (r : Refusal) (s left : List ℕ) (held : ℕ) (block : List ℕ) (managed : ManagedParameters)
-    → Takes s held block managed (intake_answer.Refused r) left
+    → Takes s held block managed (Err r) left
     → left ≡ s
 take_block_kept r s left held block managed e = intake_keeps managed s held block (sym e)
 
 -- a wait and a stop hold what was held and then what was taken, and the rest of the buffer stays
 pub wait_kept : (s left : List ℕ) (held : ℕ) (block : List ℕ) (managed : ManagedParameters) (n m : ℕ)
-    → Takes s held block managed (intake_answer.Waiting n m) left
+    → Takes s held block managed (Ok (intake_answer.Waiting n m)) left
     → (m ≡ held + n) × (left ≡ take held s ++ take n block ++ drop (held + n) s)
 wait_kept s left held block managed n m e = (wait_holds managed s held block left (sym e), writes_taken managed s held block left (sym e))
 
 pub stop_kept : (s left : List ℕ) (held : ℕ) (block : List ℕ) (managed : ManagedParameters) (n m : ℕ) (r : Refusal)
-    → Takes s held block managed (intake_answer.Stopped n m r) left
+    → Takes s held block managed (Ok (intake_answer.Stopped n m r)) left
     → (m ≡ held + n) × (left ≡ take held s ++ take n block ++ drop (held + n) s)
 stop_kept s left held block managed n m r e = (stop_holds managed s held block left (sym e), writes_taken managed s held block left (sym e))
 

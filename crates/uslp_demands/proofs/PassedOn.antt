@@ -35,7 +35,7 @@ use Rattle.uslp_demands.proofs.OfIntake.{Takes}
 use Rattle.uslp_demands.proofs.OfHearing.{fn_hear}
 use Rattle.uslp_demands.proofs.OfMany.{fn_hear_many}
 use Rattle.uslp_demands.proofs.Alike.{done_alike}
-use Rattle.std.specs.Prelude.{Result, Err, Option}
+use Rattle.std.specs.Prelude.{Result, Ok, Err, Option}
 use Rattle.uslp_kinds.specs.Answers.{paper}
 
 -- where the reader may refuse the octets with r
@@ -120,7 +120,7 @@ module _ (s : Bor (List ℕ)) (r : Refusal) where
 
 -- where the intake stops, the reader refuses what is held with that refusal
 pub intake_passes_on : (s : List ℕ) (held : ℕ) (block : List ℕ) (managed : ManagedParameters) (n m : ℕ) (r : Refusal) (left : List ℕ)
-    → Takes s held block managed (Stopped n m r) left
+    → Takes s held block managed (Ok (Stopped n m r)) left
     → (x : Result TransferFrame Refusal) → Allows fn_from_bytes ([], tt) (at (take m left), (managed, tt)) (x, (tt, (tt, tt))) → x ≡ Err r
 intake_passes_on s held block managed n m r left e x reads =
     paper_one (reads ∙ stop_read managed s held block left (sym e))

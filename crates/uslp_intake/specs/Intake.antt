@@ -1,8 +1,9 @@
 -- The intake (docs/RULES.md, section 5.3): what a call answers, and what it leaves in the holding buffer.
-use Rattle.std.specs.Prelude.{ℕ, suc, ◌+◌, cond, List, [], ◌∷◌, ◌++◌, length, take, drop, ltb, eqb}
+use Rattle.std.specs.Prelude.{ℕ, suc, ◌+◌, cond, List, [], ◌∷◌, ◌++◌, length, take, drop, ltb, eqb, Result, Ok, Err}
 use Rattle.uslp_kinds.specs.Outcome.{Outcome, done, refused, Written, only_if_done, first_of}
 use Rattle.uslp_kinds.specs.Answers.{refusal_number, carried, refusal, short}
 use Rattle.uslp_kinds.specs.declared.ManagedParameters.{ManagedParameters}
+use Rattle.uslp_kinds.specs.declared.Refusal.{Refusal}
 use Rattle.uslp_reader.specs.Reader.{frame_reading}
 use Rattle.uslp_reader.specs.declared.TransferFrame.{TransferFrame}
 use Rattle.uslp_intake.specs.declared.IntakeAnswer.{IntakeAnswer}
@@ -15,11 +16,11 @@ pub data Intake : Type 0 where
   frame : ℕ → TransferFrame → Intake
   stopped : ℕ → ℕ → ℕ → List ℕ → Intake
 
-abbrev pub paper_intake : IntakeAnswer → Outcome Intake
-paper_intake (intake_answer.Waiting taken held) = done (waiting taken held)
-paper_intake (intake_answer.Frame taken x) = done (frame taken x)
-paper_intake (intake_answer.Stopped taken held r) = done (stopped taken held (refusal_number r) (carried r))
-paper_intake (intake_answer.Refused r) = refusal r
+abbrev pub paper_intake : Result IntakeAnswer Refusal → Outcome Intake
+paper_intake (Ok (intake_answer.Waiting taken held)) = done (waiting taken held)
+paper_intake (Ok (intake_answer.Frame taken x)) = done (frame taken x)
+paper_intake (Ok (intake_answer.Stopped taken held r)) = done (stopped taken held (refusal_number r) (carried r))
+paper_intake (Err r) = refusal r
 
 -- how many octets of its block a call took, and how many are held after it, of so many before it
 abbrev pub taken_by : Outcome Intake → ℕ

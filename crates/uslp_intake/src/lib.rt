@@ -1,7 +1,7 @@
 // The intake: octets come in blocks, cut anywhere, and frames go out as they become whole.
 #![tactic(auto)]
 
-ghost use Rattle.std.specs.Prelude.{◌≡◌, ◌+◌, ◌≤◌, length};
+ghost use Rattle.std.specs.Prelude.{◌≡◌, ◌+◌, ◌≤◌, length, Ok};
 ghost use Rattle.std.proofs.Math.Seq.{paste};
 ghost use Rattle.uslp_kinds.specs.Outcome.{leaving};
 ghost use Rattle.uslp_intake.specs.Intake.{paper_intake, taken_by, held_by, intaking};
@@ -10,8 +10,7 @@ use uslp_kinds::{MAX_FRAME_LEN, ManagedParameters, Refusal};
 use uslp_octets::copy_octets;
 use uslp_reader::TransferFrame;
 
-// What a call did with its block: how many octets it took, and how many the holding buffer now holds. Four ends, and no Result:
-// `taken` and `held` promise over all four (`taken_by`, `held_by`).
+// What a call did with its block: how many octets it took, and how many the holding buffer now holds.
 #[derive(Clone, Copy, Debug)]
 pub enum IntakeAnswer {
     // The block is taken whole, and what is held is no frame yet.
@@ -30,32 +29,30 @@ pub enum IntakeAnswer {
         held: usize,
         refusal: Refusal,
     },
-    // The call itself is refused: nothing is taken, and nothing is written.
-    Refused(Refusal),
 }
 
-impl IntakeAnswer {
-    // How many octets of the block the call took.
-    pub fn taken(self) -> usize
-        ensures { result ≡ taken_by (paper_intake self) }
-    {
-        match self {
+// How many octets of the block a call took: none where it was refused.
+pub fn taken_by(answer: Result<IntakeAnswer, Refusal>) -> usize
+    ensures { result ≡ taken_by (paper_intake answer) }
+{
+    match answer {
+        Ok(
             IntakeAnswer::Waiting { taken, .. }
             | IntakeAnswer::Frame { taken, .. }
-            | IntakeAnswer::Stopped { taken, .. } => taken,
-            IntakeAnswer::Refused(_) => 0,
-        }
+            | IntakeAnswer::Stopped { taken, .. },
+        ) => taken,
+        Err(_) => 0,
     }
+}
 
-    // How many octets are held after the call, of so many before it.
-    pub fn held(self, before: usize) -> usize
-        ensures { result ≡ held_by before (paper_intake self) }
-    {
-        match self {
-            IntakeAnswer::Waiting { held, .. } | IntakeAnswer::Stopped { held, .. } => held,
-            IntakeAnswer::Frame { .. } => 0,
-            IntakeAnswer::Refused(_) => before,
-        }
+// How many octets are held after a call, of so many before it.
+pub fn held_by(before: usize, answer: Result<IntakeAnswer, Refusal>) -> usize
+    ensures { result ≡ held_by before (paper_intake answer) }
+{
+    match answer {
+        Ok(IntakeAnswer::Waiting { held, .. } | IntakeAnswer::Stopped { held, .. }) => held,
+        Ok(IntakeAnswer::Frame { .. }) => 0,
+        Err(_) => before,
     }
 }
 
@@ -68,20 +65,20 @@ pub fn take_block(
     held: usize,
     block: &[u8],
     managed: ManagedParameters,
-) -> IntakeAnswer
+) -> Result<IntakeAnswer, Refusal>
     ensures { leaving (paper_intake result) holding.new ≡ intaking managed holding.old held block.now }
 {
     if held > MAX_FRAME_LEN {
-        return IntakeAnswer::Refused(Refusal::BadField);
+        return Err(Refusal::BadField);
     }
     let found = holding.len();
     if found < MAX_FRAME_LEN {
-        return IntakeAnswer::Refused(Refusal::ShortTarget {
+        return Err(Refusal::ShortTarget {
             found,
             expected: MAX_FRAME_LEN,
         });
     }
-    take_wanted(holding, held, block, managed)
+    Ok(take_wanted(holding, held, block, managed))
 }
 
 // Reads what is held, takes as many octets as the reader lacks, and reads again, until it decides or the block ends. No index is
@@ -93,7 +90,7 @@ fn take_wanted(
     managed: ManagedParameters,
 ) -> IntakeAnswer
     requires { (held ≤ 65536) × (65536 ≤ length holding.old) }
-    ensures { leaving (paper_intake result) holding.new ≡ intaking managed holding.old held block.now }
+    ensures { leaving (paper_intake (Ok result)) holding.new ≡ intaking managed holding.old held block.now }
 {
     let mut taken: usize = 0;
     loop {

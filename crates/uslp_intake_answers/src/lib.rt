@@ -8,8 +8,8 @@ ghost use Rattle.uslp_intake_answers.specs.Fed.{fed};
 use std::io;
 use std::io::Write;
 use uslp_answers::values::Shown;
-use uslp_intake::{IntakeAnswer, take_block};
-use uslp_kinds::ManagedParameters;
+use uslp_intake::{IntakeAnswer, held_by, take_block};
+use uslp_kinds::{ManagedParameters, Refusal};
 
 // How many octets of the block were taken, and the frame, or how many are held, with the refusal where the intake stops.
 pub fn feed<W: Write>(
@@ -22,22 +22,28 @@ pub fn feed<W: Write>(
     ensures { fed held.old (intaking managed holding.old held.old block.now) ≡ (held.new, holding.new) }
 {
     let answer = take_block(holding, *held, block, managed);
-    *held = answer.held(*held);
+    *held = held_by(*held, answer);
     say_intake(out, answer, holding)
 }
 
-fn say_intake<W: Write>(out: &mut W, answer: IntakeAnswer, holding: &[u8]) -> io::Result<()> {
+fn say_intake<W: Write>(
+    out: &mut W,
+    answer: Result<IntakeAnswer, Refusal>,
+    holding: &[u8],
+) -> io::Result<()> {
     match answer {
-        IntakeAnswer::Waiting { taken, held } => write!(out, "0 WAIT {taken} {held}"),
-        IntakeAnswer::Frame { taken, frame } => {
+        Ok(IntakeAnswer::Waiting { taken, held }) => write!(out, "0 WAIT {taken} {held}"),
+        Ok(IntakeAnswer::Frame { taken, frame }) => {
             let octets = holding.get(..frame.len_frame()).unwrap_or(&[]);
             write!(out, "0 FRAME {taken} {}", Shown(octets))
         }
-        IntakeAnswer::Stopped {
-            taken,
-            held,
-            refusal,
-        } => write!(out, "0 STOP {taken} {held} {}", Shown(refusal)),
-        IntakeAnswer::Refused(refusal) => write!(out, "{}", Shown(refusal)),
+        Ok(
+            IntakeAnswer::Stopped {
+                taken,
+                held,
+                refusal,
+            },
+        ) => write!(out, "0 STOP {taken} {held} {}", Shown(refusal)),
+        Err(refusal) => write!(out, "{}", Shown(refusal)),
     }
 }

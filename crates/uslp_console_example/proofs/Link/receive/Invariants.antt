@@ -2,5 +2,5 @@
 use Rattle.std.proofs.Common.{length}
 use Rattle.uslp_console_example.proofs.Link.receive.Given as goal
 
-abbrev pub decreases-loop-taken : goal.decreases-loop-taken
-decreases-loop-taken g l = length l.rest
+abbrev pub decreases-loop-frame : goal.decreases-loop-frame
+decreases-loop-frame g l = length l.rest
