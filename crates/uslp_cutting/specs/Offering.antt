@@ -32,7 +32,7 @@ after n p = record { frames = p.frames; place = n + p.place; ending = p.ending; 
 abbrev pub behind : TransferFrame × List ℕ → Passage → Passage
 behind x p = record { frames = x ∷ p.frames; place = p.place; ending = p.ending; held = p.held }
 
--- a call, as far as its answer and the octets that it leaves go: FECF choice, octets of the holding buffer, number held, block
+-- a call, as far as its answer and the octets that it leaves go: managed parameters, octets of the holding buffer, number held, block
 abbrev pub Call : Type 0
 Call = ManagedParameters → List ℕ → ℕ → List ℕ → Written Intake
 

@@ -1,4 +1,4 @@
--- The promises of `uslp_intake` settle each call, and shut out wrong intakes, each of every buffer, held number, block and FECF choice.
+-- The promises of `uslp_intake` settle each call, and shut out wrong intakes, each of every buffer, held number, block and managed parameters.
 use mathlib.Core.Path.{◌≡◌, refl, ap, sym, ◌∙◌}
 use mathlib.Core.Bool.{true, false}
 use mathlib.Core.List.{List, [], ◌∷◌, ◌++◌}

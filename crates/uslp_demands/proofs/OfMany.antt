@@ -1,4 +1,4 @@
--- The promise of `uslp_end_to_end` settles its call, and shuts out wrong ones: three of every record, octets and FECF choice, one on a frame.
+-- The promise of `uslp_end_to_end` settles its call, and shuts out wrong ones: three of every record, octets and managed parameters, one on a frame.
 use mathlib.Core.Path.{◌≡◌, refl, sym, ap, ◌∙◌}
 use mathlib.Core.List.{List, []}
 use Prim.Native.Nat.{ℕ, ◌≤◌}

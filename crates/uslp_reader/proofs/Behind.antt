@@ -1,4 +1,4 @@
--- The reader's answer when octets are added behind, for every FECF choice: one other than SHORT_SOURCE stays, and SHORT_SOURCE stays as long as
+-- The reader's answer when octets are added behind, for all managed parameters: one other than SHORT_SOURCE stays, and SHORT_SOURCE stays as long as
 -- fewer are added than it lacks.
 use mathlib.Core.Path.{◌≡◌, refl, ap, ap₂, sym, ◌∙◌}
 use mathlib.Core.Bool.{Bool, true, false, not, cond, ◌&&◌, false≢true}

@@ -1,4 +1,4 @@
--- Laws of frames end to end: what is cut off at a frame, at a refusal and at the end, for every FECF choice.
+-- Laws of frames end to end: what is cut off at a frame, at a refusal and at the end, for all managed parameters.
 use mathlib.Core.Path.{◌≡◌, refl, ap, sym, ◌∙◌}
 use Prim.Native.Nat.{ℕ, zero, suc, ◌<◌, ◌≤◌}
 use mathlib.Core.Bool.{Bool, true, false, cond}

@@ -1,4 +1,4 @@
--- A frame that is read is read from its own octets alone too, for every FECF choice.
+-- A frame that is read is read from its own octets alone too, for all managed parameters.
 use mathlib.Core.Path.{◌≡◌, refl, ap, sym, ◌∙◌}
 use Prim.Native.Nat.{ℕ, ◌+◌, ◌-◌, ◌≤◌}
 use mathlib.Core.Bool.{Bool, true, false, cond}
