@@ -1,4 +1,4 @@
-// The commands that read: crc, hr, dr, fr.
+// The commands that read: crc, hr, dr, fr. Each is a line.
 use crate::say;
 use crate::values::Shown;
 use std::fmt::Display;

@@ -9,7 +9,8 @@ use uslp_primary_header::PrimaryHeader;
 use uslp_record::ChannelRecord;
 use uslp_writer::{TransferFrameCreator, TransferFrameCreatorWithReservedData};
 
-// A buffer of octets EE, as a command finds it; how many octets of it were written, and the whole buffer.
+// A buffer of octets EE, as a command finds it; how many octets of it were written, and the whole buffer. What a command is lent goes
+// apart here, since a struct for it would stand beside the writer.
 fn say_written<R: Alloc, W: Write, F: FnOnce(&mut [u8]) -> Result<usize, Refusal>>(
     rt: &R,
     out: &mut W,

@@ -22,6 +22,7 @@ pub fn run<R: Input + Print + Alloc>(rt: &R) -> io::Result<()> {
     let mut line = Line::new(rt.alloc());
     let mut bench = Bench::new();
     let mut ended = Ok(());
+    // to the end of the input, which has no iterator over blocks
     for _ in 0..u64::MAX {
         match input.read(&mut block) {
             Ok(0) => break,

@@ -33,7 +33,7 @@ impl<'a> Words<'a> {
         Words { rest: line }
     }
 
-    // The next word; it is empty where the line has no more.
+    // The next word; it is empty where the line has no more, which is told as a line that has no command is.
     pub(crate) fn word(&mut self) -> &'a [u8] {
         let text = self.rest.trim_ascii_start();
         let end = text

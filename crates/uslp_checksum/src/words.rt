@@ -78,7 +78,8 @@ fn quotient(high: u64) -> u64
     twice ^ (twice >> 16) ^ (twice >> 44)
 }
 
-// The register that a word leads to: the remainder by P, whose quotient q is found in the same way, by P^4, P^2 and P in turn.
+// The register that a word leads to: the remainder by P, whose quotient q is found in the same way, by P^4, P^2 and P in turn. Its low bits,
+// by `as`.
 #[tactic(auto, using(crate::proofs::Folding::narrow_law))]
 fn narrow(word: u64) -> u16
     ensures { result ≡ fed 0 word }
@@ -123,7 +124,8 @@ pub(crate) fn by_halves(register: u16, message: &[u8]) -> u16
     current
 }
 
-// So many places of a number. What leaves the register at the top is added to the number; what is left below needs no remainder.
+// So many places of a number. What leaves the register at the top is added to the number; what is left below, low bits by `as`, needs no
+// remainder.
 fn take(register: u16, number: u64, places: usize) -> u16
     requires { (places ≤ 32) × (number < 2 ^ places) }
     ensures { result ≡ feed register (lows places number) }

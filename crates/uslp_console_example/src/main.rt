@@ -75,7 +75,8 @@ impl Link {
     }
 }
 
-// The octets outlive the record: written to a file before the console stops, and read from it when it starts.
+// The octets outlive the record: written to a file before the console stops, and read from it when it starts. Of the fixed buffer
+// `written` shows what was filled.
 fn restart(channels: &mut ChannelRecord) -> Result<usize, Refusal> {
     let mut saved = [0u8; MAX_FORM_LEN];
     let length = save(*channels, Form::One, &mut saved)?;
@@ -151,7 +152,7 @@ fn hear_all(rt: &impl Print) -> io::Result<()> {
     say_answer(rt, "missing in all: ", channels.total_missing())
 }
 
-// What a call answers: a number, or the number of its refusal.
+// What a call answers: a number, or the number of its refusal. Each example says so by itself.
 fn say_answer<T: Display + Drop>(
     rt: &impl Print,
     what: &str,

@@ -11,7 +11,8 @@ use uslp_answers::values::Shown;
 use uslp_intake::{IntakeAnswer, held_by, take_block};
 use uslp_kinds::{ManagedParameters, Refusal};
 
-// How many octets of the block were taken, and the frame, or how many are held, with the refusal where the intake stops.
+// How many octets of the block were taken, and the frame, or how many are held, with the refusal where the intake stops. No `Display`,
+// since the number held and the buffer are promised here, whatever the output does.
 pub fn feed<W: Write>(
     out: &mut W,
     holding: &mut [u8],

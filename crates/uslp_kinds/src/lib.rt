@@ -149,6 +149,7 @@ impl From<u8> for SourceOrDestField {
     }
 }
 
+// The number of a case, by `as`, since std has no `From` of one; so of each kind.
 impl From<SourceOrDestField> for u8 {
     ghost from_gives = { λ role number. number ≡ source_or_dest_number role };
 

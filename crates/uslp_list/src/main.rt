@@ -64,6 +64,7 @@ fn without_number(told: &str) -> &str {
     }
 }
 
+// How much of the buffer was filled goes beside it, since the memory is fixed.
 fn list_from<R: Print, I: Read>(rt: &R, input: &mut I) -> io::Result<()> {
     let mut recording = [0u8; RECORDING_ROOM];
     let n = read_full(input, &mut recording);

@@ -72,6 +72,7 @@ impl<'a> Page<'a> {
         self.put_summary(frames, place, 0);
     }
 
+    // std has no `From` of a `usize`.
     fn put_line(&mut self, place: usize, frame: TransferFrame)
         ensures { Added (line place frame) self.old self.new }
     {

@@ -11,7 +11,8 @@ use uslp_end_to_end::hear_many;
 use uslp_kinds::ManagedParameters;
 use uslp_record::ChannelRecord;
 
-// The place reached, the tally, and why the call stopped there.
+// The place reached, the tally, and why the call stopped there. No `Display`, since the record that the call leaves is promised here,
+// whatever the output does.
 pub fn many<W: Write>(
     out: &mut W,
     octets: &[u8],

@@ -12,7 +12,8 @@ pub fn copy_octets(from: &[u8], to: &mut [u8])
     to[..n].copy_from_slice(&from[..n]);
 }
 
-// Fills `to` with a number's low octets, from the last on: by index, since std says of `iter_mut().rev()` only that the length stays.
+// Fills `to` with a number's low octets, by `as`, from the last on: by index, since std says of `iter_mut().rev()` only that the length
+// stays.
 pub fn put_be_number(value: u64, to: &mut [u8])
     ensures { to.new ≡ octets (length to.old) value }
 {

@@ -42,7 +42,7 @@ pub(crate) fn fixed_of(header: PrimaryHeader) -> u64
         + u64::from(header.vc_frame_count_len)
 }
 
-// The header that these octets and this count make.
+// The header that these octets and this count make. A field is the low bits of what stands above it, by `as`.
 pub(crate) fn header_of(fixed: u64, count: u64) -> PrimaryHeader
     ensures { result ≡ header_of (split format fixed) count }
 {

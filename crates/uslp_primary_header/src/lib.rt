@@ -96,7 +96,7 @@ impl PrimaryHeader {
         if frame_len > MAX_FRAME_LEN {
             return Err(Refusal::TooLong);
         }
-        // a length of 0 is kept as 1, as in the Rust
+        // a length of 0 is kept as 1, as in the Rust; it was just seen to fit, so `as` keeps it
         Ok(PrimaryHeader {
             frame_len_field: frame_len.saturating_sub(1) as u16,
             ..self

@@ -27,6 +27,7 @@ impl PrimaryHeader {
             });
         }
         let fixed = be_number(&buf[0..FIXED_LEN]);
+        // version and width are low bits, by `as`
         let version = (fixed / VERSION % 16) as u8;
         if version != USLP_VERSION_NUMBER {
             return Err(Refusal::BadVersion(version));

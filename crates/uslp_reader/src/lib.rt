@@ -16,7 +16,7 @@ use uslp_kinds::{ManagedParameters, Refusal, SourceOrDestField};
 use uslp_octets::part;
 use uslp_primary_header::PrimaryHeader;
 
-// What a frame says, and where its data stand in the octets that it was read from.
+// What a frame says, and where its data stand in the octets that it was read from: two numbers, as `contents_at` names them.
 #[derive(Clone, Copy, Debug)]
 pub struct TransferFrame {
     pub primary_header: PrimaryHeader,

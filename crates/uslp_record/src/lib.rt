@@ -54,6 +54,7 @@ pub struct Slot {
     pub state: SlotState,
 }
 
+// Eight slots and no map: the memory is fixed, and the search is a form that docs/PROMISES.md lists.
 #[derive(Clone, Copy, Debug, PartialEq, Eq)]
 pub struct ChannelRecord {
     pub slots: [Slot; SLOTS],

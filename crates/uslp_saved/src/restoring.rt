@@ -208,6 +208,7 @@ fn sound_totals(width: u8, totals: Totals) -> bool
     requires { width ≤ 7 }
     ensures { Tells result (SoundTotals width totals) }
 {
+    // in two steps: the check finds no proof of one conjunction
     if totals.last >= 1 << (8 * width) || totals.handed_on == 0 {
         return false;
     }

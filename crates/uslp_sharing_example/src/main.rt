@@ -11,6 +11,7 @@ use uslp_record::{Channel, ChannelRecord};
 use uslp_saved::{MAX_FORM_LEN, restore, save};
 
 // What a console not yet updated restores, at the front of `octets`. Where a channel is expedited it is refused, and no flag is dropped.
+// Of the fixed buffer `written` shows what was filled.
 fn for_old(channels: ChannelRecord, octets: &mut [u8]) -> Result<usize, Refusal> {
     let mut saved = [0u8; MAX_FORM_LEN];
     let length = save(channels, Form::Two, &mut saved)?;

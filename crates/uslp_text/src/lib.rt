@@ -6,7 +6,8 @@ ghost use Rattle.uslp_text.specs.Text.{decimal, Told};
 use itoa::Buffer;
 use uslp_octets::copy_octets;
 
-// Puts a text into a buffer from a place on, as far as it reaches, and gives the place behind it.
+// Puts a text into a buffer from a place on, as far as it reaches, and gives the place behind it. The buffer is the caller's and fixed, so
+// the place goes beside it (`Told`).
 pub fn put_text(text: &[u8], out: &mut [u8], at: usize) -> usize
     ensures { Told text.now at out.old result out.new }
 {

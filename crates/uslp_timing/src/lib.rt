@@ -89,6 +89,7 @@ fn frame_with(
     }
 }
 
+// std has no `From` of a `usize`.
 fn numbers_of(frame: TransferFrame) -> [u64; 16]
     ensures { result ≡ numbers_of frame }
 {

@@ -24,7 +24,7 @@ pub struct TransferFrameCreator {
     pub has_fecf: bool,
 }
 
-// A frame whose headers and OCF are written, as numbers; the buffer is lent again to each call.
+// A frame whose headers and OCF are written, as numbers, which `area_at` names; the buffer is lent again to each call.
 #[derive(Clone, Copy, Debug)]
 pub struct TransferFrameCreatorWithReservedData {
     pub data_index: usize,
