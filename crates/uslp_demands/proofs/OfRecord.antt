@@ -240,24 +240,29 @@ same_channel_flag e = let z : ◌≡◌ {A = ℕ} 0 1 = cc in omega arith
 pub search_settles : Settles fn_search
 search_settles = record { total = λ κs a. tt; same = λ κs a x y s t. alike (s ∙ sym t) refl }
 
+-- a record that is looked at
+abbrev looked : ChannelRecord → Bor ChannelRecord
+looked r = record { ref_ptr = (0, 0); now = r }
+
 -- the last slot that holds the channel
-pub search_last : Allows fn_search tt (put opened 3 (Opened channel 2), (channel, tt)) (Some 3, (tt, (tt, tt))) → ⊥
+pub search_last : Allows fn_search ([], tt) (looked (put opened 3 (Opened channel 2)), (channel, tt)) (Some 3, (tt, (tt, tt))) → ⊥
 unfolding find
 search_last e = let z : ◌≡◌ {A = ℕ} 3 0 = cc in omega arith
 
 -- the first slot where none holds it
-pub search_zero : Allows fn_search tt (empty_record, (channel, tt)) (Some 0, (tt, (tt, tt))) → ⊥
+pub search_zero : Allows fn_search ([], tt) (looked empty_record, (channel, tt)) (Some 0, (tt, (tt, tt))) → ⊥
 unfolding find
 search_zero e = let z : ◌≡◌ {A = ℕ} 0 1 = cc in omega arith
 
 -- a search that ignores the flag: it finds the same slot for both channels of a number
 pub search_flag : (f : Program fn_search) → Keeps fn_search f
-    → ((r : ChannelRecord) (a b : Channel) → a.spacecraft_id ≡ b.spacecraft_id → a.vc_id ≡ b.vc_id → (f tt (r, (a, tt))).0 ≡ (f tt (r, (b, tt))).0)
+    → ((r : ChannelRecord) (a b : Channel) → a.spacecraft_id ≡ b.spacecraft_id → a.vc_id ≡ b.vc_id
+    → (f ([], tt) (looked r, (a, tt))).0 ≡ (f ([], tt) (looked r, (b, tt))).0)
     → ⊥
 unfolding find
 search_flag f keeps same =
     let d : ◌≡◌ {A = Option ℕ} (Some 0) None =
-    sym (keeps tt (opened, (channel, tt))) ∙ same opened channel rushed refl refl ∙ keeps tt (opened, (rushed, tt)) in
+    sym (keeps ([], tt) (looked opened, (channel, tt))) ∙ same opened channel rushed refl refl ∙ keeps ([], tt) (looked opened, (rushed, tt)) in
     let z : ◌≡◌ {A = ℕ} 0 1 = cc in omega arith
 
 pub hear_count_settles : Settles fn_hear_count

@@ -43,12 +43,12 @@ module _ (test : Slot → Bool) (f : List Slot → ℕ) (seeks : Seeks test f) w
   unsought (x ∷ l) d n = rw (seeks.more x l, n 0 (omega arith)) (ap suc (unsought l d (λ j k. n (suc j) (omega arith))))
 
   -- so a search whose test says of each slot what `test` does finds what f finds
-  pub found_first : (Says : SlotState → Bool → Type 0) (r : ChannelRecord) {vs : List Val} → Is (row record_type.the_type) r vs → (o : Option ℕ)
-      → FoundFirst Says r o → ((x : Slot) (b : Bool) → Says x.state b → b ≡ test x) → o ≡ slot_found (f r.slots)
+  pub found_first : (Says : SlotState → Bool → Type 0) (r : ChannelRecord) → length r.slots ≡ 8 → (o : Option ℕ) → FoundFirst Says r o
+      → ((x : Slot) (b : Bool) → Says x.state b → b ≡ test x) → o ≡ slot_found (f r.slots)
   unfolding FoundFirst
   found_first Says r h (Some i) e says =
       found_here (f r.slots) i
-      (sought r.slots i (slot_of Closed) (omega (arith, eight_slots r h)) (sym (says _ _ e.1)) (λ j k. sym (says _ _ (e.2 j k)))) e.0
+      (sought r.slots i (slot_of Closed) (omega (arith, h)) (sym (says _ _ e.1)) (λ j k. sym (says _ _ (e.2 j k)))) e.0
   found_first Says r h None e says =
-      let n = λ (j : ℕ) (k : j < length r.slots). sym (says _ _ (e j (omega (arith, eight_slots r h)))) in
-      found_nowhere (f r.slots) (omega (arith, unsought r.slots (slot_of Closed) n, eight_slots r h))
+      let n = λ (j : ℕ) (k : j < length r.slots). sym (says _ _ (e j (omega (arith, h)))) in
+      found_nowhere (f r.slots) (omega (arith, unsought r.slots (slot_of Closed) n, h))

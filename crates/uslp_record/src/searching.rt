@@ -1,5 +1,5 @@
 // The eight slots: what the state in one says, and which of them a search finds.
-ghost use Rattle.std.specs.Prelude.{◌≡◌, ◌<◌};
+ghost use Rattle.std.specs.Prelude.{◌≡◌, ◌<◌, length};
 ghost use Rattle.uslp_record.specs.Slots.{state_holds, state_closed, find, slot_found, FoundFirst, vacant, put};
 ghost use Rattle.uslp_record.specs.Record.{missing_of};
 
@@ -35,17 +35,17 @@ impl SlotState {
 }
 
 impl ChannelRecord {
-    // The first slot that holds the channel. A call that takes it in copies the record word by word, which is slower.
+    // The first slot that holds the channel, in a record that is lent, so that none is copied. A call that takes the loop in is slower.
     #[inline(never)]
-    pub fn search(self, channel: Channel) -> Option<usize>
-        ensures { result ≡ slot_found (find channel self.slots) }
+    pub fn search(&self, channel: Channel) -> Option<usize>
+        ensures { result ≡ slot_found (find channel self.now.slots) }
     {
         self.first_that(|state| state.holds(channel))
     }
 
     // The first closed slot.
-    pub(crate) fn first_closed(self) -> Option<usize>
-        ensures { result ≡ slot_found (vacant self.slots) }
+    pub(crate) fn first_closed(&self) -> Option<usize>
+        ensures { result ≡ slot_found (vacant self.now.slots) }
     {
         self.first_that(|state| state.is_closed())
     }
@@ -55,7 +55,8 @@ impl ChannelRecord {
     #[tactic(auto, unfolding(crate::specs::Slots::FoundFirst))]
     fn first_that<F: Fn(SlotState) -> bool>(&self, test: F) -> Option<usize>
         requires { F.IsAlwaysCallable test }
-        ensures { FoundFirst (F.post test) self.now result }
+        ensures found { FoundFirst (F.post test) self.now result }
+        ensures eight { length self.now.slots ≡ 8 }
     {
         let mut i: usize = 0;
         loop {

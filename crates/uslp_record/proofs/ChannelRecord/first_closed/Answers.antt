@@ -5,4 +5,6 @@ use Rattle.uslp_record.proofs.Seek.{vacates, found_first}
 use Rattle.uslp_record.proofs.ChannelRecord.first_closed.Goals as goal
 
 pub returns : goal.returns
-returns c = found_first is_closed vacant vacates _ c.args.self c.well_formed.0 _ c.first_that.ensures (λ x b e. search rules)
+returns c =
+    found_first is_closed vacant vacates _ c.args.self.now c.first_that.ensures.eight _ c.first_that.ensures.found
+    (λ x b e. search rules)

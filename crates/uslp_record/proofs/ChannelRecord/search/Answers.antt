@@ -6,4 +6,5 @@ use Rattle.uslp_record.proofs.ChannelRecord.search.Goals as goal
 
 pub returns : goal.returns
 returns c =
-    found_first (holds c.args.channel) (find c.args.channel) (finds c.args.channel) _ c.args.self c.well_formed.0 _ c.first_that.ensures (λ x b e. search rules)
+    found_first (holds c.args.channel) (find c.args.channel) (finds c.args.channel) _ c.args.self.now c.first_that.ensures.eight _ c.first_that.ensures.found
+    (λ x b e. search rules)
