@@ -4,12 +4,14 @@
 ghost use Rattle.std.specs.Prelude.{◌≡◌, ◌+◌, ◌*◌, ◌%◌, ◌^◌, length};
 ghost use Rattle.uslp_octets.specs.Octets.{octets, word, overlaid, part_in, part_at, PartOf};
 
-// Copies as many octets as both slices have; the rest of `to` stays.
+// Copies as many octets as both slices have; the rest of `to` stays. Not by `copy_from_slice`, which calls `memmove`: an archive for C
+// would need that name from outside.
 pub fn copy_octets(from: &[u8], to: &mut [u8])
     ensures { to.new ≡ overlaid from.now to.old }
 {
-    let n = from.len().min(to.len());
-    to[..n].copy_from_slice(&from[..n]);
+    for i in 0..from.len().min(to.len()) {
+        to[i] = from[i];
+    }
 }
 
 // Fills `to` with a number's low octets, by `as`, from the last on: by index, since std says of `iter_mut().rev()` only that the length
