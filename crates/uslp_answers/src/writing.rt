@@ -9,86 +9,78 @@ use uslp_primary_header::PrimaryHeader;
 use uslp_record::ChannelRecord;
 use uslp_writer::{TransferFrameCreator, TransferFrameCreatorWithReservedData};
 
-// A buffer of octets EE, as a command finds it; how many octets of it were written, and the whole buffer. What a command is lent goes
-// apart here, since a struct for it would stand beside the writer.
-fn say_written<R: Alloc, W: Write, F: FnOnce(&mut [u8]) -> Result<usize, Refusal>>(
-    rt: &R,
+// Writes to the buffer that a command is lent, of octets EE as it finds it: how many octets were written, and the whole buffer.
+fn say_written<W: Write, F: FnOnce(&mut [u8]) -> Result<usize, Refusal>>(
     out: &mut W,
-    buf_len: usize,
+    buf: &mut [u8],
     write: F,
 ) -> io::Result<()>
     requires { F.IsAlwaysCallable write }
 {
-    let mut buf = vec![in rt.alloc(); 0xEE; buf_len]?;
-    match write(buf.as_mut_slice()) {
-        Ok(n) => write!(out, "0 {n} {}", Shown(buf.as_slice())),
+    buf.fill(0xEE);
+    match write(buf) {
+        Ok(n) => write!(out, "0 {n} {}", Shown(&*buf)),
         Err(refusal) => write!(out, "{}", Shown(refusal)),
     }
 }
 
-// A header that cannot be written is told before a length that is too long.
-pub fn hw<R: Alloc, W: Write>(
-    rt: &R,
+// A header that cannot be written is told before a length that is too long, and both before the buffer is touched.
+pub fn hw<W: Write>(
     out: &mut W,
     header: PrimaryHeader,
     total: usize,
-    buf_len: usize,
+    buf: &mut [u8],
 ) -> io::Result<()> {
-    say_written(rt, out, buf_len, |buf| {
-        header.checked()?.with_frame_len(total)?.write_to_slice(buf)
-    })
+    match header
+        .checked()
+        .and_then(|checked| checked.with_frame_len(total))
+    {
+        Ok(whole) => say_written(out, buf, |buf| whole.write_to_slice(buf)),
+        Err(refusal) => write!(out, "{}", Shown(refusal)),
+    }
 }
 
-pub fn fw<R: Alloc, W: Write>(
-    rt: &R,
+pub fn fw<W: Write>(
     out: &mut W,
     frame: TransferFrameCreator,
     data: &[u8],
-    buf_len: usize,
+    buf: &mut [u8],
 ) -> io::Result<()> {
-    say_written(rt, out, buf_len, |buf| frame.write_to_slice(data, buf))
+    say_written(out, buf, |buf| frame.write_to_slice(data, buf))
 }
 
 // The same by the writer that reserves the data area, through `data_mut`, so that it is tried.
-pub fn rw<R: Alloc, W: Write>(
-    rt: &R,
+pub fn rw<W: Write>(
     out: &mut W,
     frame: TransferFrameCreator,
     data: &[u8],
-    buf_len: usize,
+    buf: &mut [u8],
 ) -> io::Result<()> {
-    say_written(rt, out, buf_len, |buf| {
+    say_written(out, buf, |buf| {
         let area = TransferFrameCreatorWithReservedData::new(frame, data.len(), buf)?;
         copy_octets(data, area.data_mut(buf));
         area.finish(buf)
     })
 }
 
-pub fn save<R: Alloc, W: Write>(
-    rt: &R,
+pub fn save<W: Write>(
     out: &mut W,
     form: Form,
     channels: ChannelRecord,
-    buf_len: usize,
+    buf: &mut [u8],
 ) -> io::Result<()> {
-    say_written(
-        rt,
-        out,
-        buf_len,
-        |buf| uslp_saved::save(channels, form, buf),
-    )
+    say_written(out, buf, |buf| uslp_saved::save(channels, form, buf))
 }
 
 // Octets of one form as octets of the other.
-pub fn convert<R: Alloc, W: Write>(
-    rt: &R,
+pub fn convert<W: Write>(
     out: &mut W,
     was: Form,
     becomes: Form,
     octets: &[u8],
-    buf_len: usize,
+    buf: &mut [u8],
 ) -> io::Result<()> {
-    say_written(rt, out, buf_len, |buf| {
+    say_written(out, buf, |buf| {
         uslp_converting::convert(was, octets, becomes, buf)
     })
 }

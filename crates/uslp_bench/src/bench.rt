@@ -1,7 +1,6 @@
 // What each command does with the record and with the octets that the intake holds.
 use crate::command::{Command, FrameCommand, command_in};
-use crate::words::Fault;
-use std::alloc::AllocError;
+use crate::words::{BUF_ROOM, Fault};
 use std::io;
 use std::io::Write;
 use uslp_answers::channels::{say_heard, say_state};
@@ -22,6 +21,8 @@ pub(crate) struct Bench {
     holding: [u8; MAX_FRAME_LEN],
     // How many octets the intake holds, at the front of the holding buffer: its promise names the two apart.
     held: usize,
+    // What a command that writes is lent a part of.
+    room: [u8; BUF_ROOM],
 }
 
 impl Bench {
@@ -30,31 +31,21 @@ impl Bench {
             channels: ChannelRecord::new(),
             holding: [0; MAX_FRAME_LEN],
             held: 0,
+            room: [0; BUF_ROOM],
         }
     }
 
-    pub(crate) fn answer<R: Alloc, W: Write>(
-        &mut self,
-        rt: &R,
-        out: &mut W,
-        line: &[u8],
-    ) -> io::Result<()> {
-        match command_in(rt, line) {
-            Ok(command) => self.act(rt, out, command)?,
-            Err(Fault::BadWord(name)) => write!(out, "bad {name}")?,
-            Err(Fault::OutOfMemory) => return Err(io::Error::from(AllocError)),
+    pub(crate) fn answer<W: Write>(&mut self, out: &mut W, line: &mut [u8]) -> io::Result<()> {
+        match command_in(line) {
+            Ok(command) => self.act(out, command)?,
+            Err(Fault(name)) => write!(out, "bad {name}")?,
         }
         writeln!(out)
     }
 
-    fn act<R: Alloc, W: Write>(
-        &mut self,
-        rt: &R,
-        out: &mut W,
-        command: Command<R::A>,
-    ) -> io::Result<()> {
+    fn act<W: Write>(&mut self, out: &mut W, command: Command) -> io::Result<()> {
         match command {
-            Command::Frame(command) => say_frame_command(rt, out, command),
+            Command::Frame(command) => self.say_frame_command(out, command),
             Command::Open(channel, width) => {
                 self.say_recorded(out, self.channels.open_channel(channel, width))
             }
@@ -62,24 +53,57 @@ impl Bench {
                 self.say_recorded(out, self.channels.close_channel(channel))
             }
             Command::Restore(form, octets) => {
-                self.say_recorded(out, restore(self.channels, form, &octets))
+                self.say_recorded(out, restore(self.channels, form, octets))
             }
             Command::Hear(managed, octets) => {
-                let hearing = hear(self.channels, &octets, managed);
+                let hearing = hear(self.channels, octets, managed);
                 self.channels = hearing.next;
-                say_heard(out, hearing.answer, &octets)
+                say_heard(out, hearing.answer, octets)
             }
-            Command::Many(managed, octets) => many(out, &octets, managed, &mut self.channels),
+            Command::Many(managed, octets) => many(out, octets, managed, &mut self.channels),
             Command::Show(channel) => say_state(out, self.channels.channel_state(channel)),
             Command::Total => say(out, self.channels.total_missing()),
-            Command::Save(form, buf_len) => save(rt, out, form, self.channels, buf_len),
+            Command::Save(form, buf_len) => {
+                save(out, form, self.channels, front(&mut self.room, buf_len))
+            }
             Command::Feed(managed, octets) => {
-                feed(out, &mut self.holding, &mut self.held, &octets, managed)
+                feed(out, &mut self.holding, &mut self.held, octets, managed)
             }
             Command::DropHeld => {
                 self.held = 0;
                 say_done(out, Ok(()))
             }
+        }
+    }
+
+    fn say_frame_command<W: Write>(
+        &mut self,
+        out: &mut W,
+        command: FrameCommand,
+    ) -> io::Result<()> {
+        let room = &mut self.room;
+        match command {
+            FrameCommand::Checksum(octets) => crc(out, octets),
+            FrameCommand::ReadHeader(octets) => hr(out, octets),
+            FrameCommand::ReadFieldHeader(octets) => dr(out, octets),
+            FrameCommand::ReadFrame(managed, octets) => fr(out, octets, managed),
+            FrameCommand::WriteHeader {
+                header,
+                total,
+                buf_len,
+            } => hw(out, header, total, front(room, buf_len)),
+            FrameCommand::WriteFrame(asked) => {
+                fw(out, asked.frame, asked.data, front(room, asked.buf_len))
+            }
+            FrameCommand::Reserve(asked) => {
+                rw(out, asked.frame, asked.data, front(room, asked.buf_len))
+            }
+            FrameCommand::Convert {
+                was,
+                becomes,
+                buf_len,
+                octets,
+            } => convert(out, was, becomes, octets, front(room, buf_len)),
         }
     }
 
@@ -89,28 +113,8 @@ impl Bench {
     }
 }
 
-fn say_frame_command<R: Alloc, W: Write>(
-    rt: &R,
-    out: &mut W,
-    command: FrameCommand<R::A>,
-) -> io::Result<()> {
-    match command {
-        FrameCommand::Checksum(octets) => crc(out, &octets),
-        FrameCommand::ReadHeader(octets) => hr(out, &octets),
-        FrameCommand::ReadFieldHeader(octets) => dr(out, &octets),
-        FrameCommand::ReadFrame(managed, octets) => fr(out, &octets, managed),
-        FrameCommand::WriteHeader {
-            header,
-            total,
-            buf_len,
-        } => hw(rt, out, header, total, buf_len),
-        FrameCommand::WriteFrame(asked) => fw(rt, out, asked.frame, &asked.data, asked.buf_len),
-        FrameCommand::Reserve(asked) => rw(rt, out, asked.frame, &asked.data, asked.buf_len),
-        FrameCommand::Convert {
-            was,
-            becomes,
-            buf_len,
-            octets,
-        } => convert(rt, out, was, becomes, &octets, buf_len),
-    }
+// So many octets of a buffer; no command asks for more than it has.
+fn front(octets: &mut [u8], len: usize) -> &mut [u8] {
+    let len = len.min(octets.len());
+    &mut octets[..len]
 }

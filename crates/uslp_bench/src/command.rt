@@ -1,6 +1,5 @@
 // The commands, and the words of each.
 use crate::words::{Fault, Words};
-use std::alloc::Allocator;
 use uslp_answers::values::octet_of;
 use uslp_data_field_header::TransferFrameDataFieldHeader;
 use uslp_form::Form;
@@ -13,88 +12,84 @@ use uslp_record::Channel;
 use uslp_writer::TransferFrameCreator;
 
 #[derive(Drop)]
-pub(crate) enum Command<A: Allocator> {
-    Frame(FrameCommand<A>),
+pub(crate) enum Command<'a> {
+    Frame(FrameCommand<'a>),
     Open(Channel, u8),
     Close(Channel),
     Show(Channel),
     Total,
     Save(Form, usize),
-    Restore(Form, Vec<u8, A>),
-    Hear(ManagedParameters, Vec<u8, A>),
-    Many(ManagedParameters, Vec<u8, A>),
-    Feed(ManagedParameters, Vec<u8, A>),
+    Restore(Form, &'a [u8]),
+    Hear(ManagedParameters, &'a [u8]),
+    Many(ManagedParameters, &'a [u8]),
+    Feed(ManagedParameters, &'a [u8]),
     DropHeld,
 }
 
 // The commands that keep nothing.
 #[derive(Drop)]
-pub(crate) enum FrameCommand<A: Allocator> {
-    Checksum(Vec<u8, A>),
-    ReadHeader(Vec<u8, A>),
-    ReadFieldHeader(Vec<u8, A>),
-    ReadFrame(ManagedParameters, Vec<u8, A>),
+pub(crate) enum FrameCommand<'a> {
+    Checksum(&'a [u8]),
+    ReadHeader(&'a [u8]),
+    ReadFieldHeader(&'a [u8]),
+    ReadFrame(ManagedParameters, &'a [u8]),
     WriteHeader {
         header: PrimaryHeader,
         total: usize,
         buf_len: usize,
     },
-    WriteFrame(FrameToWrite<A>),
-    Reserve(FrameToWrite<A>),
+    WriteFrame(FrameToWrite<'a>),
+    Reserve(FrameToWrite<'a>),
     Convert {
         was: Form,
         becomes: Form,
         buf_len: usize,
-        octets: Vec<u8, A>,
+        octets: &'a [u8],
     },
 }
 
 #[derive(Drop)]
-pub(crate) struct FrameToWrite<A: Allocator> {
+pub(crate) struct FrameToWrite<'a> {
     pub(crate) frame: TransferFrameCreator,
     pub(crate) buf_len: usize,
-    pub(crate) data: Vec<u8, A>,
+    pub(crate) data: &'a [u8],
 }
 
 // The command that a line calls. The first word that does not fit is told.
-pub(crate) fn command_in<R: Alloc>(rt: &R, line: &[u8]) -> Result<Command<R::A>, Fault> {
+pub(crate) fn command_in<'a>(line: &'a mut [u8]) -> Result<Command<'a>, Fault> {
     let mut words = Words::new(line);
-    let name = words.word();
+    let name = &*words.word();
     let command = match name {
         b"open" => Command::Open(channel(&mut words)?, octet_of(words.number("width")?)),
         b"close" => Command::Close(channel(&mut words)?),
-        b"hear" => Command::Hear(words.managed()?, words.octets(rt)?),
+        b"hear" => Command::Hear(words.managed()?, words.octets()?),
         b"show" => Command::Show(channel(&mut words)?),
         b"total" => Command::Total,
         b"save" => Command::Save(Form::One, words.buf_len()?),
-        b"restore" => Command::Restore(Form::One, words.octets(rt)?),
-        b"many" => Command::Many(words.managed()?, words.octets(rt)?),
-        b"feed" => Command::Feed(words.managed()?, words.octets(rt)?),
+        b"restore" => Command::Restore(Form::One, words.octets()?),
+        b"many" => Command::Many(words.managed()?, words.octets()?),
+        b"feed" => Command::Feed(words.managed()?, words.octets()?),
         b"drop" => Command::DropHeld,
         b"save2" => Command::Save(Form::Two, words.buf_len()?),
-        b"restore2" => Command::Restore(Form::Two, words.octets(rt)?),
-        _ => Command::Frame(frame_command(rt, name, &mut words)?),
+        b"restore2" => Command::Restore(Form::Two, words.octets()?),
+        _ => Command::Frame(frame_command(name, &mut words)?),
     };
     words.end()?;
     Ok(command)
 }
 
-fn frame_command<R: Alloc>(
-    rt: &R,
-    name: &[u8],
-    words: &mut Words,
-) -> Result<FrameCommand<R::A>, Fault> {
+fn frame_command<'a>(name: &[u8], words: &mut Words<'a>) -> Result<FrameCommand<'a>, Fault> {
     Ok(match name {
-        b"crc" => FrameCommand::Checksum(words.octets(rt)?),
-        b"hr" => FrameCommand::ReadHeader(words.octets(rt)?),
-        b"dr" => FrameCommand::ReadFieldHeader(words.octets(rt)?),
-        b"fr" => FrameCommand::ReadFrame(words.managed()?, words.octets(rt)?),
+        b"crc" => FrameCommand::Checksum(words.octets()?),
+        b"hr" => FrameCommand::ReadHeader(words.octets()?),
+        b"dr" => FrameCommand::ReadFieldHeader(words.octets()?),
+        b"fr" => FrameCommand::ReadFrame(words.managed()?, words.octets()?),
         b"hw" => header_to_write(words)?,
-        b"fw" => FrameCommand::WriteFrame(frame_to_write(rt, words)?),
-        b"rw" => FrameCommand::Reserve(frame_to_write(rt, words)?),
-        b"up" => to_convert(rt, words, Form::One, Form::Two)?,
-        b"down" => to_convert(rt, words, Form::Two, Form::One)?,
-        _ => return Err(Fault::BadWord("command")),
+        b"fw" => FrameCommand::WriteFrame(frame_to_write(words)?),
+        b"rw" => FrameCommand::Reserve(frame_to_write(words)?),
+        b"up" => to_convert(words, Form::One, Form::Two)?,
+        b"down" => to_convert(words, Form::Two, Form::One)?,
+        _ => return Err(Fault("command")),
     })
 }
 
@@ -140,7 +135,7 @@ fn behind_place(words: &mut Words, place: PrimaryHeader) -> Result<PrimaryHeader
     })
 }
 
-fn header_to_write<A: Allocator>(words: &mut Words) -> Result<FrameCommand<A>, Fault> {
+fn header_to_write<'a>(words: &mut Words<'a>) -> Result<FrameCommand<'a>, Fault> {
     let place = place(words)?;
     let total = words.number("total")?;
     let header = behind_place(words, place)?;
@@ -153,7 +148,7 @@ fn header_to_write<A: Allocator>(words: &mut Words) -> Result<FrameCommand<A>, F
 }
 
 // A rule or a protocol id that no frame has is told after all words are read.
-fn frame_to_write<R: Alloc>(rt: &R, words: &mut Words) -> Result<FrameToWrite<R::A>, Fault> {
+fn frame_to_write<'a>(words: &mut Words<'a>) -> Result<FrameToWrite<'a>, Fault> {
     let place = place(words)?;
     let primary_header = behind_place(words, place)?;
     let rule = octet_of(words.number("rule")?);
@@ -162,13 +157,13 @@ fn frame_to_write<R: Alloc>(rt: &R, words: &mut Words) -> Result<FrameToWrite<R:
     let operational_control_field = words.optional("ocf")?;
     let has_fecf = words.flag("fecf")?;
     let buf_len = words.buf_len()?;
-    let data = words.octets(rt)?;
+    let data = words.octets()?;
     words.end()?;
     if rule > 7 {
-        return Err(Fault::BadWord("rule"));
+        return Err(Fault("rule"));
     }
     let Ok(uslp_protocol_id) = UslpProtocolId::try_from(id) else {
-        return Err(Fault::BadWord("pid"));
+        return Err(Fault("pid"));
     };
     let data_field_header = TransferFrameDataFieldHeader {
         construction_rule: ConstructionRule::from(rule),
@@ -188,16 +183,15 @@ fn frame_to_write<R: Alloc>(rt: &R, words: &mut Words) -> Result<FrameToWrite<R:
     })
 }
 
-fn to_convert<R: Alloc>(
-    rt: &R,
-    words: &mut Words,
+fn to_convert<'a>(
+    words: &mut Words<'a>,
     was: Form,
     becomes: Form,
-) -> Result<FrameCommand<R::A>, Fault> {
+) -> Result<FrameCommand<'a>, Fault> {
     Ok(FrameCommand::Convert {
         was,
         becomes,
         buf_len: words.buf_len()?,
-        octets: words.octets(rt)?,
+        octets: words.octets()?,
     })
 }

@@ -19,14 +19,14 @@ pub fn run<R: Input + Print + Alloc>(rt: &R) -> io::Result<()> {
     let mut input = rt.reader();
     let mut out = BufWriter::new(rt.alloc(), io::writer(rt))?;
     let mut block = [0u8; BLOCK];
-    let mut line = Line::new(rt.alloc());
+    let mut line = Line::new();
     let mut bench = Bench::new();
     let mut ended = Ok(());
     // to the end of the input, which has no iterator over blocks
     for _ in 0..u64::MAX {
         match input.read(&mut block) {
             Ok(0) => break,
-            Ok(n) => answer_lines(rt, &mut out, &block[..n], &mut line, &mut bench)?,
+            Ok(n) => answer_lines(&mut out, &block[..n], &mut line, &mut bench)?,
             Err(error) => {
                 ended = Err(error);
                 break;
@@ -36,26 +36,25 @@ pub fn run<R: Input + Print + Alloc>(rt: &R) -> io::Result<()> {
     }
     // what stands behind the last line feed is a line too
     if !line.is_empty() {
-        bench.answer(rt, &mut out, line.text())?;
+        bench.answer(&mut out, line.text())?;
     }
     out.flush()?;
     ended
 }
 
 // Octet by octet, since a line may go on in the next block.
-fn answer_lines<R: Alloc, W: Write>(
-    rt: &R,
+fn answer_lines<W: Write>(
     out: &mut W,
     block: &[u8],
-    line: &mut Line<R::A>,
+    line: &mut Line,
     bench: &mut Bench,
 ) -> io::Result<()> {
     for c in block {
         if *c == b'\n' {
-            bench.answer(rt, out, line.text())?;
+            bench.answer(out, line.text())?;
             line.clear();
         } else {
-            line.push(*c)?;
+            line.push(*c);
         }
     }
     Ok(())

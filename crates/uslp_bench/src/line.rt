@@ -1,42 +1,49 @@
 // A line as its characters come.
-use std::alloc::{AllocError, Allocator};
 
 // The most characters that a line may have.
 const LINE_ROOM: usize = 300000;
 
-// One character more is kept than a line may have, so that a longer one is told apart.
+// How many characters have come stands beside them, since the memory is fixed: no line can lack it. It is more than their room where
+// the line is too long.
 #[derive(Drop)]
-pub(crate) struct Line<A: Allocator> {
-    characters: Vec<u8, A>,
+pub(crate) struct Line {
+    characters: [u8; LINE_ROOM],
+    len: usize,
 }
 
-impl<A: Allocator> Line<A> {
-    pub(crate) fn new(alloc: A) -> Line<A> {
+impl Line {
+    pub(crate) fn new() -> Line {
         Line {
-            characters: Vec::new(alloc),
+            characters: [0; LINE_ROOM],
+            len: 0,
         }
     }
 
-    pub(crate) fn push(&mut self, c: u8) -> Result<(), AllocError> {
-        if self.characters.len() <= LINE_ROOM {
-            self.characters.push(c)?;
+    pub(crate) fn push(&mut self, c: u8) {
+        match self.characters.get_mut(self.len) {
+            Some(cell) => {
+                *cell = c;
+                self.len += 1;
+            }
+            None => self.len = LINE_ROOM + 1,
         }
-        Ok(())
     }
 
     pub(crate) fn clear(&mut self) {
-        self.characters.clear();
+        self.len = 0;
     }
 
     pub(crate) fn is_empty(&self) -> bool {
-        self.characters.is_empty()
+        self.len == 0
     }
 
     // Nothing for a line that is too long: it is no command, as an empty one.
-    pub(crate) fn text(&self) -> &[u8] {
-        if self.characters.len() > LINE_ROOM {
-            return &[];
+    pub(crate) fn text(&mut self) -> &mut [u8] {
+        let len = self.len;
+        let characters = &mut self.characters;
+        if len > LINE_ROOM {
+            return &mut [];
         }
-        self.characters.as_slice()
+        &mut characters[..len]
     }
 }

@@ -1,46 +1,43 @@
 // The words of a line, and what they say.
-use hex::FromHexError;
-use std::str;
+ghost use Rattle.std.specs.Prelude.{◌≤◌, length};
+
 use std::str::FromStr;
+use std::{mem, str};
 use uslp_kinds::ManagedParameters;
 
 // A buffer of so many octets is shown in a line.
-const BUF_ROOM: usize = 140000;
+pub(crate) const BUF_ROOM: usize = 140000;
 
-// Why a line is not done: a word does not fit the place of this name, or there is no memory for its octets.
+// Why a line is not done: a word does not fit the place of this name.
 #[derive(Drop)]
-pub(crate) enum Fault {
-    BadWord(&'static str),
-    OutOfMemory,
-}
+pub(crate) struct Fault(pub(crate) &'static str);
 
 // A word that is missing is told as all of them are.
 fn misfit(word: &[u8], name: &'static str) -> Fault {
     if word.is_empty() {
-        return Fault::BadWord("arguments");
+        return Fault("arguments");
     }
-    Fault::BadWord(name)
+    Fault(name)
 }
 
-// The words of a line that are still to be read.
+// The words of a line that are still to be read. The line is lent for writing, since octets are laid over the digits that say them.
 #[derive(Drop)]
 pub(crate) struct Words<'a> {
-    rest: &'a [u8],
+    rest: &'a mut [u8],
 }
 
 impl<'a> Words<'a> {
-    pub(crate) fn new(line: &'a [u8]) -> Words<'a> {
+    pub(crate) fn new(line: &'a mut [u8]) -> Words<'a> {
         Words { rest: line }
     }
 
     // The next word; it is empty where the line has no more, which is told as a line that has no command is.
-    pub(crate) fn word(&mut self) -> &'a [u8] {
-        let text = self.rest.trim_ascii_start();
-        let end = text
-            .iter()
-            .position(|c| c.is_ascii_whitespace())
-            .unwrap_or(text.len());
-        let (word, rest) = text.split_at(end);
+    pub(crate) fn word(&mut self) -> &'a mut [u8] {
+        let line = mem::take(&mut self.rest);
+        let start = place_of(line, false);
+        let (_, text) = line.split_at_mut(start);
+        let end = place_of(text, true);
+        let (word, rest) = text.split_at_mut(end);
         self.rest = rest;
         word
     }
@@ -49,7 +46,7 @@ impl<'a> Words<'a> {
         if self.word().is_empty() {
             return Ok(());
         }
-        Err(Fault::BadWord("arguments"))
+        Err(Fault("arguments"))
     }
 
     pub(crate) fn number<T: FromStr>(&mut self, name: &'static str) -> Result<T, Fault>
@@ -65,7 +62,7 @@ impl<'a> Words<'a> {
     where
         T::Err: Drop,
     {
-        let word = self.word();
+        let word = &*self.word();
         if word == b"-".as_slice() {
             return Ok(None);
         }
@@ -73,7 +70,7 @@ impl<'a> Words<'a> {
     }
 
     pub(crate) fn flag(&mut self, name: &'static str) -> Result<bool, Fault> {
-        match self.word() {
+        match &*self.word() {
             b"0" => Ok(false),
             b"1" => Ok(true),
             word => Err(misfit(word, name)),
@@ -89,26 +86,44 @@ impl<'a> Words<'a> {
     pub(crate) fn buf_len(&mut self) -> Result<usize, Fault> {
         let len = self.number("buflen")?;
         if len > BUF_ROOM {
-            return Err(Fault::BadWord("buflen"));
+            return Err(Fault("buflen"));
         }
         Ok(len)
     }
 
     // Octets in lower-case hex, or a dash for none.
-    pub(crate) fn octets<R: Alloc>(&mut self, rt: &R) -> Result<Vec<u8, R::A>, Fault> {
+    pub(crate) fn octets(&mut self) -> Result<&'a [u8], Fault> {
         let word = self.word();
-        if word == b"-".as_slice() {
-            return Ok(Vec::new(rt.alloc()));
+        if &*word == b"-".as_slice() {
+            return Ok(&[]);
         }
-        if word.is_empty() || word.iter().any(|c| c.is_ascii_uppercase()) {
+        if word.is_empty() || word.len() % 2 != 0 || word.iter().any(|c| c.is_ascii_uppercase()) {
             return Err(misfit(word, "hex"));
         }
-        match hex::decode(rt.alloc(), word) {
-            Ok(octets) => Ok(octets),
-            Err(FromHexError::OutOfMemory) => Err(Fault::OutOfMemory),
-            Err(_) => Err(Fault::BadWord("hex")),
+        decoded(word)
+    }
+}
+
+// The place of the first blank, or of the first character that is none; behind the text where there is none.
+fn place_of(text: &[u8], blank: bool) -> usize
+    ensures { result ≤ length text.now }
+{
+    text.iter()
+        .position(|c| c.is_ascii_whitespace() == blank)
+        .unwrap_or(text.len())
+}
+
+// The octets that digits say, at the front of the memory that these stand in: no other is taken.
+fn decoded(digits: &mut [u8]) -> Result<&[u8], Fault> {
+    let n = digits.len() / 2;
+    for i in 0..n {
+        let mut octet = [0];
+        match hex::decode_to_slice([digits[2 * i], digits[2 * i + 1]], &mut octet) {
+            Ok(()) => digits[i] = octet[0],
+            Err(_) => return Err(Fault("hex")),
         }
     }
+    Ok(&digits[..n])
 }
 
 // A decimal number without a sign.
