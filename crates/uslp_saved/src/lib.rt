@@ -49,18 +49,17 @@ pub fn save(channels: ChannelRecord, form: Form, to: &mut [u8]) -> Result<usize,
 pub fn restore(channels: ChannelRecord, form: Form, from: &[u8]) -> Recorded<()>
     ensures { Restoring form channels from.now (keeping (paper result.answer) result.next) }
 {
-    let Some(octets) = Octets::shaped(form, from) else {
-        return Recorded::refused(channels, Refusal::BadForm);
-    };
-    if !octets.flags_fit() {
-        return Recorded::refused(channels, Refusal::BadForm);
+    // one exit for what is refused: the record is copied there alone
+    if let Some(octets) = Octets::shaped(form, from) {
+        if octets.flags_fit() {
+            let next = octets.read_all();
+            if octets.admits(next) {
+                return Recorded {
+                    answer: Ok(()),
+                    next,
+                };
+            }
+        }
     }
-    let next = octets.read_all();
-    if !octets.admits(next) {
-        return Recorded::refused(channels, Refusal::BadForm);
-    }
-    Recorded {
-        answer: Ok(()),
-        next,
-    }
+    Recorded::refused(channels, Refusal::BadForm)
 }

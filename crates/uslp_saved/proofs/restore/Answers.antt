@@ -10,6 +10,7 @@ use Rattle.uslp_form.specs.Saved.{Restoring}
 use Rattle.uslp_saved.specs.Reading.{AllAdmitted}
 use Rattle.uslp_saved.proofs.Told.{restores_good, restores_shapeless, restores_flagless, restores_bad}
 use Rattle.uslp_saved.proofs.restore.Goals as goal
+use Rattle.uslp_saved.proofs.restore.Goals.{in-Some+then-flags_fit+else-admits, in-Some+else-flags_fit, in_default}
 
 -- the answer and the record of a call that was refused or done
 abbrev Leaves : Form → ChannelRecord → List ℕ → Recorded (Unit {0}) → Type 0
@@ -26,36 +27,29 @@ same : (f : Form) {q p : ChannelRecord} {n m i j : ℕ} → q ≡ p → n ≡ m 
 same f {q} {p} {n} {m} {i} {j} e d g a =
     subst (AllAdmitted f p m) g (subst (λ (k : ℕ). AllAdmitted f p k i) d (subst (λ (r : ChannelRecord). AllAdmitted f r n i) e a))
 
-pub returns-in_default : goal.returns-in_default
-returns-in_default c =
-    let a = c.args in
-    subst (Leaves a.form a.channels a.from.now) (sym c.refused.ensures)
-    (restores_shapeless a.form a.from.now a.channels c.in_default.ensures)
-
-pub returns-then-not-flags_fit : goal.returns-then-not-flags_fit
-returns-then-not-flags_fit c =
-    let a = c.args in
-    let o = c.in-Some.octets in
-    subst (Leaves a.form a.channels a.from.now) (sym c.refused-then-not-flags_fit.ensures)
-    (of_octets (Refuses a.channels) c.in-Some.ensures
-    (restores_flagless o.form o.from.now a.channels (c.flags_fit.ensures.1 c.if-not-flags_fit.true)))
-
-pub returns-then-not-admits : goal.returns-then-not-admits
-returns-then-not-admits c =
-    let a = c.args in
-    let o = c.in-Some.octets in
-    subst (Leaves a.form a.channels a.from.now) (sym c.refused-then-not-admits.ensures)
-    (of_octets (Refuses a.channels) c.in-Some.ensures
-    (restores_bad o.form o.from.now a.channels
-    (λ all. c.admits.ensures.1 c.if-not-admits.true (same o.form (sym c.read_all-next.ensures) (sym o.first) (sym o.all) all))))
-
-pub returns : goal.returns
-returns c =
+pub returns-then-admits : goal.returns-then-admits
+returns-then-admits c =
     let a = c.args in
     let o = c.in-Some.octets in
     let s = o.from.now in
     of_octets (λ f t. Restoring f a.channels t (keeping (done tt) c.read_all-next.result)) c.in-Some.ensures
     (subst (λ (q : ChannelRecord). Restoring o.form a.channels s (keeping (done tt) q)) (sym c.read_all-next.ensures)
     (restores_good o.form s a.channels o.octets (record { long = o.long; few = omega (arith, o.all, o.few) })
-    (c.flags_fit.ensures.0 c.if-not-flags_fit.false)
-    (same o.form c.read_all-next.ensures o.first o.all (c.admits.ensures.0 c.if-not-admits.false))))
+    (c.flags_fit.ensures.0 c.if-flags_fit.true)
+    (same o.form c.read_all-next.ensures o.first o.all (c.admits.ensures.0 c.if-admits.true))))
+
+pub returns : goal.returns
+returns c =
+    let a = c.args in
+    subst (Leaves a.form a.channels a.from.now) (sym c.refused.ensures)
+    (elim c.match-shaped.branch [
+      | in-Some+then-flags_fit+else-admits w ↦
+          of_octets (Refuses a.channels) w.in-Some.ensures
+          (restores_bad w.in-Some.octets.form w.in-Some.octets.from.now a.channels
+          (λ all. w.admits.ensures.1 w.if-admits.false
+          (same w.in-Some.octets.form (sym w.read_all-next.ensures) (sym w.in-Some.octets.first) (sym w.in-Some.octets.all) all)))
+      | in-Some+else-flags_fit w ↦
+          of_octets (Refuses a.channels) w.in-Some.ensures
+          (restores_flagless w.in-Some.octets.form w.in-Some.octets.from.now a.channels (w.flags_fit.ensures.1 w.if-flags_fit.false))
+      | in_default w ↦ restores_shapeless a.form a.from.now a.channels w.in_default.ensures
+    ])
