@@ -9,7 +9,8 @@ use uslp_primary_header::PrimaryHeader;
 use uslp_record::ChannelRecord;
 use uslp_writer::{TransferFrameCreator, TransferFrameCreatorWithReservedData};
 
-// Writes to the buffer that a command is lent, of octets EE as it finds it: how many octets were written, and the whole buffer.
+// Writes to the buffer that a command is lent, of octets EE as it finds it: how many octets were written, and the whole buffer. The writer
+// and the buffer go apart here, since a struct for both would be no plainer.
 fn say_written<W: Write, F: FnOnce(&mut [u8]) -> Result<usize, Refusal>>(
     out: &mut W,
     buf: &mut [u8],

@@ -5,5 +5,5 @@
 use std::io;
 
 fn main(rt: HostRuntime) -> io::Result<()> {
-    uslp_bench::run(&rt)
+    uslp_bench::run_on_less_stack(&rt)
 }
